@@ -26,7 +26,8 @@ use Rattle.commands.specs.Refusals.{refused_as}
 use Rattle.commands.specs.Feed.{IsFeed, IsNoFeed}
 use Rattle.commands.specs.Agreed.{IsNoOrderOf, WhyNoOrder}
 use Rattle.commands.specs.Traced.{IsTraceOf, IsPageOf}
-use Rattle.commands.specs.Profiled.{IsNoProfileOf, IsProfileOf, WhyNoProfile, IsNoRow, AreRows, sizes_below}
+use Rattle.commands.specs.Profiled.{IsNoProfileOf, IsProfileOf, WhyNoProfile, IsNoRow, AreRows, IsSufficient, sizes_below}
+use Rattle.profile_text.specs.declared.sufficient.Sufficient.{Sufficient}
 use Rattle.commands.specs.Served.{Parts, IsReportedAs, IsRunOf, IsNoRunOf, IsRefusedLine, WhyNoRun, config_of}
 
 -- a cause that the integers decide, where there are none
@@ -171,9 +172,11 @@ module _ (input text : List ℕ) (inputs : List ℤ) (feed : IsFeed input text i
   rows_refused o s format g e counts good waves f (inr none) = stopped_profile o s format f (inr ((g, e, counts, good, waves), none.0, none.1))
 
   pub profile_of : (o : RunOptions) (s : Sizes) (format : ProfileFormat) (g : Graph) (e : MeanEnd) (counts : List ℕ) (rows : List MachineRow)
+      (enough : Option Sufficient)
       → IsGoodText text g → AreWavesOf g inputs o.steps e counts → wave_counts g inputs o.steps ≡ Some (e, counts)
-      → (format ≡ ProfileFormat.Lines → AreRows text inputs o (sizes_below s 64) rows) → IsProfileOf input o s format g e counts rows
-  profile_of o s format g e counts rows good waves reported machine = record {
+      → (format ≡ ProfileFormat.Lines → AreRows text inputs o (sizes_below s 64) rows)
+      → (format ≡ ProfileFormat.Lines → IsSufficient g inputs o.steps enough) → IsProfileOf input o s format g e counts rows enough
+  profile_of o s format g e counts rows enough good waves reported machine sufficient = record {
     text = text;
     inputs = inputs;
     feed = feed;
@@ -181,4 +184,5 @@ module _ (input text : List ℕ) (inputs : List ℤ) (feed : IsFeed input text i
     waves = waves;
     reported = reported;
     machine = machine;
+    sufficient = sufficient;
   }

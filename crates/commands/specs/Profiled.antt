@@ -1,6 +1,6 @@
 -- What `profile` prints: the waves of a graph's meaning, and what the machine took with each number of elements.
 use Rattle.std.specs.Prelude.{◌≡◌, ◌≢◌, ℕ, zero, suc, ◌+◌, ◌<◌, ◌==◌, Bool, true, false, ℤ, ◌⊎◌, List, [], ◌∷◌, ◌++◌, length, map, Option, Some, None, Result}
-use Rattle.std.specs.Prelude.{Ok, Err, if◌then◌else◌, ⊤}
+use Rattle.std.specs.Prelude.{Ok, Err, if◌then◌else◌, nat_lt, ⊤}
 use Rattle.semantics.specs.Graph.{Graph}
 use Rattle.semantics.specs.declared.report.End.{End}
 use Rattle.semantics.specs.Report.{Report}
@@ -10,6 +10,7 @@ use Rattle.oracle.specs.Gathering.{wave_counts}
 use Rattle.oracle.specs.Waves.{AreWavesOf}
 use Rattle.replay.specs.declared.moment.Moment.{Moment}
 use Rattle.profile_text.specs.declared.lines.MachineRow.{MachineRow}
+use Rattle.profile_text.specs.declared.sufficient.Sufficient.{Sufficient}
 use Rattle.profile_text.specs.Picture.{greatest_from, svg_text}
 use Rattle.profile_text.specs.ProfileText.{profile_text}
 use Rattle.command_line.specs.declared.Mode.{Mode}
@@ -17,6 +18,8 @@ use Rattle.command_line.specs.declared.RunOptions.{RunOptions}
 use Rattle.command_line.specs.declared.sizes.Sizes.{Sizes}
 use Rattle.command_line.specs.Words.{has_size}
 use Rattle.driver.specs.ListedEvents.{IsWatched}
+use Rattle.driver.specs.declared.needs.MachineNeeds.{MachineNeeds}
+use Rattle.driver.specs.Needs.{AreNeedsOf, AreUntold}
 use Rattle.driver.specs.Objects.{RunsObject}
 use Rattle.driver.specs.Orders.{RunsByRounds}
 use Rattle.driver.specs.Refused.{IsGoodText, IsRefused, IsRefusedMeaning}
@@ -84,10 +87,24 @@ pub record IsNoRow (text : List ℕ) (inputs : List ℤ) (o : RunOptions) (z : S
   pub rows : List MachineRow
   pub earlier : AreRows text inputs o (sizes_below z elements) rows
 
+-- WHAT SUFFICES in every order, as it is printed: nothing, where no loop's bound can be as many as the iterations.
+abbrev pub shown_of : MachineNeeds → Sufficient
+shown_of n = record { frames = n.frames; steps = n.steps; iterations = n.iterations }
+
+abbrev pub sufficient_of : Option MachineNeeds → Option Sufficient
+sufficient_of None = None
+sufficient_of (Some n) = if nat_lt 64 n.iterations then None else Some (shown_of n)
+
+-- what one run of the meaning, of at most that many activities, tells; or why it tells nothing that is printed
+abbrev pub IsSufficient : Graph → List ℤ → ℕ → Option Sufficient → Type 0
+IsSufficient g inputs activities (Some s) = AreNeedsOf g inputs activities s.frames s.steps s.iterations
+IsSufficient g inputs activities None = AreUntold g inputs activities
+    ⊎ ((frames : ℕ) × (steps : ℕ) × (iterations : ℕ) × AreNeedsOf g inputs activities frames steps iterations × (64 < iterations))
+
 -- The waves of the graph that the input has, on the integers that follow it, and how they end; and a row for each number of elements in
--- the set. A picture has no rows.
+-- the set, and what suffices in every order. A picture has neither.
 pub record IsProfileOf (input : List ℕ) (o : RunOptions) (z : Sizes) (format : ProfileFormat) (g : Graph) (end : MeanEnd)
-    (counts : List ℕ) (rows : List MachineRow) : Type 0 where
+    (counts : List ℕ) (rows : List MachineRow) (enough : Option Sufficient) : Type 0 where
   pub text : List ℕ
   pub inputs : List ℤ
   pub feed : IsFeed input text inputs
@@ -96,6 +113,7 @@ pub record IsProfileOf (input : List ℕ) (o : RunOptions) (z : Sizes) (format :
   -- and they are the ones that the definition gives, which finds all that is enabled and then does it
   pub reported : wave_counts g inputs o.steps ≡ Some (end, counts)
   pub machine : format ≡ ProfileFormat.Lines → AreRows text inputs o (sizes_below z 64) rows
+  pub sufficient : format ≡ ProfileFormat.Lines → IsSufficient g inputs o.steps enough
 
 -- Why there is no profile: the first cause in the order of the work.
 abbrev pub WhyNoProfile : Result (List ℤ) ℕ → List ℕ → RunOptions → Sizes → ProfileFormat → Refusal → Type 0
@@ -114,9 +132,9 @@ abbrev pub format_of : Bool → ProfileFormat
 format_of true = ProfileFormat.Picture
 format_of false = ProfileFormat.Lines
 
-abbrev pub text_of : ProfileFormat → Graph → MeanEnd → List ℕ → List MachineRow → List ℕ
-text_of ProfileFormat.Lines g end counts rows = profile_text g.arrays counts rows end
-text_of ProfileFormat.Picture g end counts rows = svg_text counts
+abbrev pub text_of : ProfileFormat → Graph → MeanEnd → List ℕ → List MachineRow → Option Sufficient → List ℕ
+text_of ProfileFormat.Lines g end counts rows enough = profile_text g.arrays counts rows enough end
+text_of ProfileFormat.Picture g end counts rows enough = svg_text counts
 
 -- the first row whose run did not end at rest
 abbrev pub failed_row : MachineRow → FailedRow
@@ -134,6 +152,7 @@ profiled ProfileFormat.Picture end rows = Outcome.Drawn (Ending.Meaning end)
 -- THE COMMAND
 abbrev pub PrintsProfile : {E : Type 0} → Result Outcome E → Option (List ℕ) → Option (List ℕ) → List ℕ → RunOptions → Sizes → ProfileFormat → Type 0
 PrintsProfile result old new input o z format =
-    ((g : Graph) × (end : MeanEnd) × (counts : List ℕ) × (rows : List MachineRow) × IsProfileOf input o z format g end counts rows
-    × Prints result old new (text_of format g end counts rows) (profiled format end rows))
+    ((g : Graph) × (end : MeanEnd) × (counts : List ℕ) × (rows : List MachineRow) × (enough : Option Sufficient)
+    × IsProfileOf input o z format g end counts rows enough
+    × Prints result old new (text_of format g end counts rows enough) (profiled format end rows))
     ⊎ ((f : Refusal) × IsNoProfileOf input o z format f × Refuses result old new f)

@@ -8,8 +8,8 @@ ghost use Rattle.sink.specs.Sends.{Sends};
 ghost use Rattle.outcomes.specs.declared.refusal.Refusal.{Refusal as AsRefusal};
 ghost use Rattle.driver.specs.Refused.{IsCompiled, IsGoodText, IsRefused};
 ghost use Rattle.commands.specs.Served.{IsReportedAs};
-ghost use Rattle.commands.specs.Profiled.{AreRows, IsChosen, IsNoProfileOf, IsNoRow, IsProfileOf, IsRow, PrintsProfile, config_with, format_of};
-ghost use Rattle.commands.specs.Profiled.{quantity_in, profiled, sizes_below, text_of, first_failed};
+ghost use Rattle.commands.specs.Profiled.{AreRows, IsChosen, IsNoProfileOf, IsNoRow, IsProfileOf, IsRow, IsSufficient, PrintsProfile, config_with, format_of};
+ghost use Rattle.commands.specs.Profiled.{quantity_in, profiled, sizes_below, sufficient_of, text_of, first_failed};
 
 use crate::feed::read_feed;
 use crate::refusal::fault_refusal;
@@ -17,12 +17,13 @@ use crate::serving::refuse;
 use command_line::{RunOptions, Sizes};
 use driver::compiling::compile_graph;
 use driver::meaning::{Waved, waves_text};
+use driver::needs::{MachineNeeds, machine_needs};
 use driver::resources::Resources;
 use driver::watching::{WatchedRounds, watch_rounds};
 use graph_check::Checked;
 use loaded::Loaded;
 use outcomes::{Ending, FailedRow, Outcome, Refusal, status_of};
-use profile_text::{MachineRow, write_profile, write_svg};
+use profile_text::{MachineRow, Sufficient, write_profile, write_svg};
 use replay::Moment;
 use rounds::{Gate, Open};
 use schedule::config::Config;
@@ -35,6 +36,9 @@ use std::thread::Threads;
 
 /// How many numbers of elements there may be.
 const SIZES: u64 = 64;
+
+/// The greatest bound of a loop.
+const BOUNDS: u64 = 64;
 
 /// What a profile is printed as.
 #[derive(Clone, Copy)]
@@ -263,11 +267,60 @@ fn rows_beside<'a, R: Threads + Wait + Sync, A: Allocator + Clone + Send + Sync,
     }
 }
 
-/// The waves of a graph's meaning, and what the machine took.
+/// What is printed of what a machine needs: nothing, where no loop's bound can be as many as the iterations.
+fn sufficient_of(needs: Option<MachineNeeds>) -> Option<Sufficient>
+    ensures { result ≡ sufficient_of needs }
+{
+    match needs {
+        Some(needs) => {
+            if BOUNDS < needs.iterations {
+                return None;
+            }
+            Some(Sufficient {
+                frames: needs.frames,
+                steps: needs.steps,
+                iterations: needs.iterations,
+            })
+        }
+        None => None,
+    }
+}
+
+/// What suffices in every order, as it is printed. With a picture nothing is.
+fn sufficient_beside<
+    'a,
+    R: Threads + Wait + Sync,
+    A: Allocator + Clone + Send + Sync,
+    G: Gate + Sync,
+>(
+    resources: &Resources<'_, A, R, G>,
+    checked: &Checked<'a, A>,
+    inputs: &[i64],
+    activities: u64,
+    format: ProfileFormat,
+) -> Result<Option<Sufficient>, Refusal>
+    ensures { MatchResult result
+        (λ s. format ≡ ProfileFormat.Lines → IsSufficient checked.now inputs.now activities s)
+        (λ f. f ≡ AsRefusal.Memory) }
+{
+    let Ok(room) = resources.alloc.clone() else {
+        return Err(Refusal::Memory);
+    };
+    match format {
+        ProfileFormat::Lines => match machine_needs(room, checked, inputs, activities) {
+            Ok(needs) => Ok(sufficient_of(needs)),
+            Err(_refused) => Err(Refusal::Memory),
+        },
+        ProfileFormat::Picture => Ok(None),
+    }
+}
+
+/// The waves of a graph's meaning, what the machine took, and what suffices.
 #[derive(Drop)]
 struct Profile<'a, A: Allocator> {
     waves: Waved<'a, A>,
     rows: Vec<MachineRow, A>,
+    sufficient: Option<Sufficient>,
 }
 
 /// The profile of the graph of the input on the integers after it. The causes of a refusal are checked in the order of the work.
@@ -279,7 +332,7 @@ fn make_profile<'a, R: Threads + Wait + Sync, A: Allocator + Clone + Send + Sync
     format: ProfileFormat,
 ) -> Result<Profile<'a, A>, Refusal>
     ensures { MatchResult result
-        (λ p. IsProfileOf input.now options.now sizes format p.waves.checked p.waves.report.end p.waves.report.counts.items p.rows.items)
+        (λ p. IsProfileOf input.now options.now sizes format p.waves.checked p.waves.report.end p.waves.report.counts.items p.rows.items p.sufficient)
         (IsNoProfileOf input.now options.now sizes format) }
 {
     let feed = match read_feed(&resources.alloc, input) {
@@ -294,8 +347,16 @@ fn make_profile<'a, R: Threads + Wait + Sync, A: Allocator + Clone + Send + Sync
         Err(fault) => return Err(fault_refusal(fault)),
     };
     let inputs = &feed.integers;
-    match rows_beside(resources, &waves.checked, inputs, options, sizes, format) {
-        Ok(rows) => Ok(Profile { waves, rows }),
+    let rows = match rows_beside(resources, &waves.checked, inputs, options, sizes, format) {
+        Ok(rows) => rows,
+        Err(refusal) => return Err(refusal),
+    };
+    match sufficient_beside(resources, &waves.checked, inputs, options.steps, format) {
+        Ok(sufficient) => Ok(Profile {
+            waves,
+            rows,
+            sufficient,
+        }),
         Err(refusal) => Err(refusal),
     }
 }
@@ -307,12 +368,20 @@ fn write_made<A: Allocator, W: Write>(
     format: ProfileFormat,
 ) -> io::Result<()>
     ensures { Sends result (W.contents writer.old) (W.contents writer.new)
-        (text_of format profile.now.waves.checked profile.now.waves.report.end profile.now.waves.report.counts.items profile.now.rows.items) }
+        (text_of format profile.now.waves.checked profile.now.waves.report.end profile.now.waves.report.counts.items profile.now.rows.items
+        profile.now.sufficient) }
 {
     let waves = &profile.waves;
     match format {
         ProfileFormat::Lines => {
-            write_profile(writer, waves.checked.graph(), &waves.report, &profile.rows)
+            let graph = waves.checked.graph();
+            write_profile(
+                writer,
+                graph,
+                &waves.report,
+                &profile.rows,
+                profile.sufficient,
+            )
         }
         ProfileFormat::Picture => write_svg(writer, &waves.report.counts),
     }
@@ -350,7 +419,7 @@ fn profiled<A: Allocator>(format: ProfileFormat, profile: &Profile<'_, A>) -> Ou
 }
 
 /// Prints how much parallelism the graph of the input has, on the integers after it: its waves as a picture, or as lines, with a row
-/// for each number of elements; or why there is none. The runs of the rows ask no gate. Gives the outcome.
+/// for each number of elements and what suffices in every order; or why there is none. The runs of the rows ask no gate. Gives the outcome.
 pub fn print_profile<
     R: Threads + Wait + Sync,
     A: Allocator + Clone + Send + Sync,

@@ -10,3 +10,4 @@ pub mod Watched
 pub mod Valued
 pub mod Booked
 pub mod Completed
+pub mod Needed

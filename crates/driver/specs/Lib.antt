@@ -9,3 +9,4 @@ pub mod Disassembled
 pub mod ListedEvents
 pub mod Values
 pub mod Completes
+pub mod Needs

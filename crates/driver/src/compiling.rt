@@ -43,7 +43,7 @@ pub fn check_text<'a, A: Allocator + Clone>(
 
 /// Makes the plan of a graph, pass by pass: first with any number of destinations at an instruction, then with literal
 /// operands, and then with at most two destinations.
-fn plan<'a, A: Allocator + Clone>(
+pub(crate) fn plan<'a, A: Allocator + Clone>(
     alloc: &A,
     checked: &Checked<'a, A>,
 ) -> Result<Plan<A>, AllocError>

@@ -3,6 +3,7 @@
 ghost use Rattle.driver.specs.Completes.{ReportsComplete, ModesComplete, QuietReportsComplete};
 ghost use Rattle.driver.specs.Completes.{OwnBoundsSuffice, OwnBoundsSufficeIn, OwnBoundsSufficeQuietly};
 ghost use Rattle.driver.specs.Completes.{KeptOrderSuffices, KeptOrderSufficesIn, KeptOrderSufficesQuietly};
+ghost use Rattle.driver.specs.Needs.{NeedsSuffice, NeedsSufficeInModes, NeedsSufficeQuietly};
 
 /// A report of a run over a machine that is large enough for what the graph's meaning calls for ends at rest with no deferred reader, in any order of
 /// the events, in each mode, and where the report lists no events: so it has the only outcome of the meaning.
@@ -34,4 +35,14 @@ pub fn kept_order_suffices()
     ensures reports { KeptOrderSuffices }
     ensures modes { KeptOrderSufficesIn }
     ensures quiet { KeptOrderSufficesQuietly }
+{}
+
+/// What `needs::machine_needs` counts in one run of the meaning suffices in every order.
+///
+/// A report of a run over a machine that has these frames, these steps, and loops whose bounds are at least the iterations ends at rest with no
+/// deferred reader, if the run was not cut off.
+pub fn needs_suffice()
+    ensures reports { NeedsSuffice }
+    ensures modes { NeedsSufficeInModes }
+    ensures quiet { NeedsSufficeQuietly }
 {}

@@ -9,6 +9,7 @@ pub mod emulation;
 pub mod fault;
 pub mod meaning;
 pub mod modes;
+pub mod needs;
 pub mod objects;
 pub mod resources;
 pub mod running;

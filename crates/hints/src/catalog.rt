@@ -40,6 +40,8 @@ steps-or-picks-end: an element made its $a step$A, or the $b picks of an order r
 wave-end: --steps $a does not allow all activities of the next wave: raise it ($b at most), if the graph ends at all
 activities-end: --steps $a allows no further activity, and there is one: raise it, if the graph ends at all
 no-frame: $a request$A for a frame at the end, where no frame was free: raise --frames (1024 at most), or --elements (16 at most)
+no-frame-of-enough: $a request$A for a frame at the end, where no frame was free: raise --frames (1024 at most), or --elements (16 at most); $c frames of all elements together suffice in every order, if --steps does
+no-frame-of-enough-bounds: $a request$A for a frame at the end, where no frame was free: raise --frames (1024 at most), or --elements (16 at most); $c frames of all elements together suffice in every order where each loop's bound is at least $d, if --steps does
 no-frame-in-row: $a request$A for a frame at its end, where none of its $d frame$D was free: raise --frames (1024 at most), or leave $c out of --elements
 failed-row: the run on $c element$C does not end at rest, so its rounds are not those of all the work
 readers: $a reader$A at the end of cells that no store filled: `ets trace` shows them, each with a `read` that is `deferred` and no `write`

@@ -31,7 +31,7 @@ use message::{Found, Special, nowhere};
 use objects::object_fault;
 use outcomes::{Ending, Outcome, Refusal};
 use programs::{kind_cause, program_fault};
-use readers::{ReaderCells, reader_cells};
+use readers::{ReaderCells, invocations_of, reader_cells};
 use runs::{
     Case, end_fault, given_fault, input_fault, is_of_object, memory_cause, page_fault,
     profile_fault, start_fault,
@@ -41,6 +41,12 @@ use std::alloc::{AllocError, Allocator};
 use std::convert::AsStr;
 use texts::text_fault;
 use words::runs_graph;
+
+/// How many frames a machine has at most: 1024 on each of 16 elements.
+const FRAMES: usize = 16_384;
+
+/// The greatest bound of a loop.
+const BOUNDS: usize = 64;
 
 /// What the input is, where it is something else than what the command reads.
 fn other_input(input: &[u8], command: &str) -> Option<Text> {
@@ -159,6 +165,36 @@ fn named_cells<A: Allocator + Clone>(
     Ok((cells.count > 0).then_some(cells))
 }
 
+/// The frames that suffice where a run of a graph wants frames, with a cause that says so. `None` where that is not known, where no machine has so many, or
+/// where no loop's bound can be as many as the iterations.
+fn enough_frames<'a, A: Allocator + Clone>(
+    alloc: A,
+    found: &Found<'a>,
+    input: Option<&[u8]>,
+) -> Result<Option<Found<'a>>, AllocError> {
+    if found.cause != "no-frame" {
+        return Ok(None);
+    }
+    let Some(counts) = invocations_of(alloc, input.unwrap_or(b""))? else {
+        return Ok(None);
+    };
+    if counts.invocations >= FRAMES || counts.iterations > BOUNDS {
+        return Ok(None);
+    }
+    let cause = match counts.iterations {
+        0 => "no-frame-of-enough",
+        _ => "no-frame-of-enough-bounds",
+    };
+    let mut numbers = found.numbers;
+    numbers[2] = counts.invocations as u64 + 1;
+    numbers[3] = counts.iterations as u64;
+    Ok(Some(Found {
+        cause,
+        numbers,
+        ..*found
+    }))
+}
+
 /// The line that shows this cause.
 fn line_of<A: Allocator + Clone>(alloc: A, found: &Found<'_>) -> Result<Line<A>, AllocError> {
     let text = format!(in alloc.clone()?; "{found}")?;
@@ -188,6 +224,7 @@ pub fn explain<'a, S: AsStr, A: Allocator + Clone>(
         },
         None => found,
     };
+    let found = enough_frames(alloc.clone()?, &found, input)?.unwrap_or(found);
     let place = match found.place {
         Some(cause) => Some(line_of(alloc.clone()?, &Found { cause, ..found })?),
         None => None,

@@ -1,15 +1,16 @@
-//! The cells for which readers wait where a run is at rest: those for which fetches wait in the meaning of its graph.
+//! What the meaning of a graph tells of its run: the cells for which readers wait where the run is at rest, which are those for which fetches wait in the
+//! meaning, and how many invocations it calls for.
 
 use crate::lines::{is_full, is_line_feed, split_graph};
-use graph_check::check_graph;
+use graph_check::{Checked, check_graph};
 use graph_file::{literal, read_graph};
-use oracle::waiting_fetches;
+use oracle::{CallCounts, MeanFault, call_counts, waiting_fetches};
 use std::alloc::{AllocError, Allocator};
 
 /// How many cells a hint names.
 const NAMED: usize = 8;
 
-/// How many activities of the meaning are done at most to find them.
+/// How many activities of the meaning are done at most.
 const ACTIVITIES: u64 = 1_000_000;
 
 /// A cell: the place of its array, and its index there.
@@ -31,6 +32,29 @@ fn inputs_of<A: Allocator>(alloc: A, lines: &[u8]) -> Result<Vec<i64, A>, AllocE
     Ok(inputs)
 }
 
+/// A graph that was read, and the inputs of its run.
+#[derive(Drop)]
+struct ReadRun<'a, A: Allocator> {
+    checked: Checked<'a, A>,
+    inputs: Vec<i64, A>,
+}
+
+/// The graph of this input and its inputs, where it is one that can be run.
+fn read_run<'a, A: Allocator + Clone>(
+    alloc: A,
+    input: &'a [u8],
+) -> Result<Option<ReadRun<'a, A>>, AllocError> {
+    let (text, lines) = split_graph(input);
+    let inputs = inputs_of(alloc.clone()?, lines)?;
+    let Ok(graph) = read_graph(alloc, text) else {
+        return Ok(None);
+    };
+    let Ok(checked) = check_graph(graph) else {
+        return Ok(None);
+    };
+    Ok(Some(ReadRun { checked, inputs }))
+}
+
 /// The cells for which fetches wait where the meaning is at rest, in order, each as often as a fetch waits for it. There are none
 /// where the meaning is not at rest soon.
 fn waiting_cells<A: Allocator + Clone>(
@@ -38,21 +62,31 @@ fn waiting_cells<A: Allocator + Clone>(
     input: &[u8],
 ) -> Result<Vec<Place, A>, AllocError> {
     let mut cells = Vec::new(alloc.clone()?);
-    let (text, lines) = split_graph(input);
-    let inputs = inputs_of(alloc.clone()?, lines)?;
-    let Ok(graph) = read_graph(alloc.clone()?, text) else {
+    let Some(run) = read_run(alloc.clone()?, input)? else {
         return Ok(cells);
     };
-    let Ok(checked) = check_graph(graph) else {
-        return Ok(cells);
-    };
-    if let Ok(Some(fetches)) = waiting_fetches(alloc, &checked, &inputs, ACTIVITIES) {
+    if let Ok(Some(fetches)) = waiting_fetches(alloc, &run.checked, &run.inputs, ACTIVITIES) {
         for fetch in &fetches {
             cells.push((fetch.array, fetch.index))?;
         }
     }
     cells.sort_unstable();
     Ok(cells)
+}
+
+/// How many invocations the meaning of this graph calls for on its inputs. `None` where it is not at rest soon with no fetch waiting.
+pub fn invocations_of<A: Allocator + Clone>(
+    alloc: A,
+    input: &[u8],
+) -> Result<Option<CallCounts>, AllocError> {
+    let Some(run) = read_run(alloc.clone()?, input)? else {
+        return Ok(None);
+    };
+    match call_counts(alloc, &run.checked, &run.inputs, ACTIVITIES) {
+        Ok(counts) => Ok(counts),
+        Err(MeanFault::WrongInputs) => Ok(None),
+        Err(MeanFault::Memory) => Err(AllocError),
+    }
 }
 
 /// The first of these cells, which are in order, and how many there are.

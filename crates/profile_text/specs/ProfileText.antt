@@ -1,11 +1,12 @@
 -- The lines of a profile.
-use Rattle.std.specs.Prelude.{ℕ, zero, suc, ◌+◌, ◌*◌, ◌/◌, ◌%◌, Option, Some, None, List, [], ◌∷◌, ◌++◌, length, flat_map, decimal, codes, slice_get}
+use Rattle.std.specs.Prelude.{ℕ, zero, suc, ◌+◌, ◌*◌, ◌/◌, ◌%◌, Option, Some, None, List, [], ◌∷◌, ◌++◌, length, flat_map, decimal, codes, slice_get, ◌==◌, if◌then◌else◌}
 use Rattle.semantics.specs.Text.{field, line}
 use Rattle.sink.specs.Numbered.{numbered}
 use Rattle.semantics.specs.declared.report.End.{End}
 use Rattle.oracle.specs.declared.report.MeanEnd.{MeanEnd}
 use Rattle.oracle.specs.Waves.{work}
 use Rattle.profile_text.specs.declared.lines.MachineRow.{MachineRow}
+use Rattle.profile_text.specs.declared.sufficient.Sufficient.{Sufficient}
 
 -- pieces in a row
 abbrev pub together : List (List ℕ) → List ℕ
@@ -68,6 +69,31 @@ end_line arrays MeanEnd.Rest = line (codes "end Rest")
 end_line arrays (MeanEnd.Clash a i) = line (codes "end Clash " ++ name_of (slice_get arrays a) ++ field (decimal i))
 end_line arrays MeanEnd.Steps = line (codes "end Steps")
 
+-- WHAT SUFFICES, in every order: frames of all elements together, and a limit of steps for each element. Where loops have iterations, each loop's bound
+-- has to be at least their number.
+abbrev pub plain_line : List ℕ → ℕ → List ℕ
+plain_line what n = together (what ∷ codes " that suffice in every order: " ∷ decimal n ∷ codes "\n" ∷ [])
+
+abbrev pub bounded_line : List ℕ → ℕ → ℕ → List ℕ
+bounded_line what iterations n =
+    together (
+    what ∷ codes " that suffice in every order where " ∷ codes "each loop's bound is at least " ∷ decimal iterations ∷ codes ": " ∷ decimal n ∷ codes "\n" ∷ []
+    )
+
+abbrev pub sufficient_line : List ℕ → ℕ → ℕ → List ℕ
+sufficient_line what iterations n = if iterations == 0 then plain_line what n else bounded_line what iterations n
+
+abbrev pub both_lines : Sufficient → List ℕ
+both_lines s = sufficient_line (codes "frames") s.iterations s.frames ++ sufficient_line (codes "steps") s.iterations s.steps
+
+abbrev pub sufficient_text : Option Sufficient → List ℕ
+sufficient_text None = []
+sufficient_text (Some s) = both_lines s
+
 -- THE WHOLE
-abbrev pub profile_text : List (List ℕ × ℕ) → List ℕ → List MachineRow → MeanEnd → List ℕ
-profile_text arrays counts rows end = totals_text (work counts) (length counts) ++ waves_text counts ++ flat_map (row_line arrays) rows ++ end_line arrays end
+abbrev pub last_text : List (List ℕ × ℕ) → Option Sufficient → MeanEnd → List ℕ
+last_text arrays enough end = sufficient_text enough ++ end_line arrays end
+
+abbrev pub profile_text : List (List ℕ × ℕ) → List ℕ → List MachineRow → Option Sufficient → MeanEnd → List ℕ
+profile_text arrays counts rows enough end = totals_text (work counts) (length counts) ++ waves_text counts ++ flat_map (row_line arrays) rows
+    ++ last_text arrays enough end

@@ -2,10 +2,12 @@
 
 ghost use Rattle.std.specs.Prelude.{◌≡◌, ◌++◌, codes, decimal, flat_map, length, slice_get};
 ghost use Rattle.oracle.specs.Waves.{work};
-ghost use Rattle.profile_text.specs.ProfileText.{totals_text, wave_line, waves_text, taken_text, row_end, row_line, name_of, end_line, profile_text};
+ghost use Rattle.profile_text.specs.ProfileText.{totals_text, wave_line, waves_text, taken_text, row_end, row_line, name_of, end_line, both_lines, last_text};
+ghost use Rattle.profile_text.specs.ProfileText.{profile_text};
 ghost use Rattle.sink.specs.Sends.{Sends};
 
 use crate::numbers::{parallelism_of, work_of};
+use crate::sufficient::{Sufficient, send_sufficient};
 use graph::{Array, Graph};
 use itoa::Buffer;
 use oracle::{MeanEnd, WaveReport};
@@ -178,19 +180,49 @@ fn send_end<W: Write>(writer: &mut W, arrays: &[Array<'_>], end: MeanEnd) -> io:
     }
 }
 
+/// What suffices in every order, if that is known, and the last line.
+fn send_last<W: Write>(
+    writer: &mut W,
+    arrays: &[Array<'_>],
+    sufficient: Option<Sufficient>,
+    end: MeanEnd,
+) -> io::Result<()>
+    ensures { Sends result (W.contents writer.old) (W.contents writer.new) (last_text arrays.now sufficient end) }
+{
+    match sufficient {
+        Some(sufficient) => send_before_end(writer, arrays, &sufficient, end),
+        None => send_end(writer, arrays, end),
+    }
+}
+
+/// What suffices in every order, and the last line.
+fn send_before_end<W: Write>(
+    writer: &mut W,
+    arrays: &[Array<'_>],
+    sufficient: &Sufficient,
+    end: MeanEnd,
+) -> io::Result<()>
+    ensures { Sends result (W.contents writer.old) (W.contents writer.new) (both_lines sufficient.now ++ end_line arrays.now end) }
+{
+    send_sufficient(writer, sufficient)?;
+    send_end(writer, arrays, end)
+}
+
 /// Writes the lines of a profile: the work, the span and the parallelism, each wave, what the machine took with each number of
-/// elements, with the end of its run if that is not at rest, and the end of the waves. The writer is called until it has taken all of it; a call that takes no byte is a
+/// elements, with the end of its run if that is not at rest, what suffices in every order, and the end of the waves. The writer is called until it has taken all of it; a call that takes no byte is a
 /// fault. After an `Err` a beginning of the text was written. Takes no memory.
 pub fn write_profile<'a, A: Allocator, W: Write>(
     writer: &mut W,
     graph: &Graph<'a, A>,
     waves: &WaveReport<A>,
     rows: &[MachineRow],
+    sufficient: Option<Sufficient>,
 ) -> io::Result<()>
-    ensures { Sends result (W.contents writer.old) (W.contents writer.new) (profile_text graph.now.arrays waves.now.counts.items rows.now waves.now.end) }
+    ensures { Sends result (W.contents writer.old) (W.contents writer.new)
+        (profile_text graph.now.arrays waves.now.counts.items rows.now sufficient waves.now.end) }
 {
     send_totals(writer, &waves.counts)?;
     send_waves(writer, &waves.counts)?;
     send_rows(writer, &graph.arrays, rows)?;
-    send_end(writer, &graph.arrays, waves.end)
+    send_last(writer, &graph.arrays, sufficient, waves.end)
 }

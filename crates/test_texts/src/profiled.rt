@@ -2,7 +2,7 @@
 
 use graph_file::read;
 use oracle::{MeanEnd, WaveReport};
-use profile_text::{MachineRow, write_profile, write_svg};
+use profile_text::{MachineRow, Sufficient, write_profile, write_svg};
 use semantics::report::End;
 use semantics::version::Version;
 use std::alloc::{AllocError, Global};
@@ -31,6 +31,16 @@ elements 5 rounds 6 tokens 8 slots 7 frames 1 end Stuck 3
 elements 6 rounds 6 tokens 8 slots 7 frames 1 end Memory
 elements 7 rounds 6 tokens 8 slots 7 frames 1 end Stop
 elements 8 rounds 6 tokens 8 slots 7 frames 1
+frames that suffice in every order where each loop's bound is at least 5: 8
+steps that suffice in every order where each loop's bound is at least 5: 529
+end Rest
+";
+
+const WITHOUT_LOOPS: &[u8] = b"work 0
+span 0
+parallelism 0.00
+frames that suffice in every order: 1
+steps that suffice in every order: 340282366920938463463374607431768211455
 end Rest
 ";
 
@@ -97,17 +107,38 @@ fn writes_a_profile(rt: HostRuntime) -> Result<(), Fail> {
     let waves = waves_of(&heap, TREE)?;
     let left = heap.left();
     let mut text = Vec::new(rt.alloc());
-    write_profile(&mut text, &graph, &waves, &rows)?;
+    let seven_called = Sufficient {
+        frames: 8,
+        steps: 529,
+        iterations: 5,
+    };
+    write_profile(&mut text, &graph, &waves, &rows, Some(seven_called))?;
     assert_eq!(&rt; text.as_slice(), TEXT);
     assert_eq!(&rt; heap.left(), left);
     // Without waves there is no parallelism.
     let nothing = waves_of(&heap, &[])?;
     text.clear();
-    write_profile(&mut text, &graph, &nothing, &[])?;
+    write_profile(&mut text, &graph, &nothing, &[], None)?;
     assert_eq!(&rt;
         text.as_slice(),
         b"work 0\nspan 0\nparallelism 0.00\nend Rest\n".as_slice()
     );
+    Ok(())
+}
+
+#[test]
+fn says_what_suffices_without_loops(rt: HostRuntime) -> Result<(), Fail> {
+    let heap = Rationed::new(rt.alloc(), 0);
+    let graph = read(&heap, GRAPH)?;
+    let nothing = waves_of(&heap, &[])?;
+    let one_frame = Sufficient {
+        frames: 1,
+        steps: 340_282_366_920_938_463_463_374_607_431_768_211_455,
+        iterations: 0,
+    };
+    let mut text = Vec::new(rt.alloc());
+    write_profile(&mut text, &graph, &nothing, &[], Some(one_frame))?;
+    assert_eq!(&rt; text.as_slice(), WITHOUT_LOOPS);
     Ok(())
 }
 

@@ -5,8 +5,8 @@ use Rattle.oracle.specs.Waves.{AreWavesOf}
 use Rattle.driver.specs.Refused.{IsRefusedMeaning}
 use Rattle.outcomes.specs.declared.refusal.Refusal.{Refusal}
 use Rattle.commands.specs.declared.profiling.ProfileFormat.{ProfileFormat}
-use Rattle.commands.specs.Profiled.{AreRows, IsNoRow, sizes_below}
-use Rattle.commands.proofs.Feeds.{not_profiled, profile_of, rows_refused, waves_refused}
+use Rattle.commands.specs.Profiled.{AreRows, IsNoRow, IsSufficient, sizes_below}
+use Rattle.commands.proofs.Feeds.{no_room_for_profile, not_profiled, profile_of, rows_refused, waves_refused}
 use Rattle.commands.proofs.profiling.make_profile.Goals as goal
 
 pub returns-in-Err : goal.returns-in-Err
@@ -18,8 +18,8 @@ returns-in-Err-waves_text g c =
     (subst (λ (zs : List ℤ). IsRefusedMeaning c.in-Ok.feed.text.now zs c.in-Err-waves_text.fault) c.deref.ensures.value
     c.in-Err-waves_text.ensures.refused) c.fault_refusal.result c.fault_refusal.ensures
 
-pub returns : goal.returns
-returns g c =
+pub returns-in-Err-rows_beside : goal.returns-in-Err-rows_beside
+returns-in-Err-rows_beside g c =
     let w = c.in-Ok-waves_text.waves in
     let f = c.in-Err-rows_beside.refusal in
     let o = c.args.options.now in
@@ -31,13 +31,18 @@ returns g c =
     (subst (λ (zs : List ℤ). (f ≡ Refusal.Memory) ⊎ ((c.args.format ≡ ProfileFormat.Lines) × IsNoRow text zs o c.args.sizes f))
     c.deref-2.ensures.value (c.in-Err-rows_beside.ensures text c.in-Ok-waves_text.ensures.good))
 
-pub returns-in-Ok-rows_beside : goal.returns-in-Ok-rows_beside
-returns-in-Ok-rows_beside g c =
+pub returns : goal.returns
+returns g c = no_room_for_profile c.args.input.now _ _ c.in-Ok.ensures c.args.options.now c.args.sizes c.args.format c.in-Err-sufficient_beside.refusal
+    c.in-Err-sufficient_beside.ensures
+
+pub returns-in-Ok-sufficient_beside : goal.returns-in-Ok-sufficient_beside
+returns-in-Ok-sufficient_beside g c =
     let w = c.in-Ok-waves_text.waves in
     let rows = c.in-Ok-rows_beside.rows.items in
+    let enough = c.in-Ok-sufficient_beside.sufficient in
     let o = c.args.options.now in
     let text = c.in-Ok.feed.text.now in
-    profile_of c.args.input.now _ _ c.in-Ok.ensures o c.args.sizes c.args.format w.checked w.report.end w.report.counts.items rows
+    profile_of c.args.input.now _ _ c.in-Ok.ensures o c.args.sizes c.args.format w.checked w.report.end w.report.counts.items rows enough
     c.in-Ok-waves_text.ensures.good
     (subst (λ (zs : List ℤ). AreWavesOf w.checked zs o.steps w.report.end w.report.counts.items) c.deref.ensures.value
     c.in-Ok-waves_text.ensures.waves)
@@ -45,3 +50,5 @@ returns-in-Ok-rows_beside g c =
     c.in-Ok-waves_text.ensures.reported)
     (subst (λ (zs : List ℤ). c.args.format ≡ ProfileFormat.Lines → AreRows text zs o (sizes_below c.args.sizes 64) rows) c.deref-2.ensures.value
     (c.in-Ok-rows_beside.ensures text c.in-Ok-waves_text.ensures.good))
+    (subst (λ (zs : List ℤ). c.args.format ≡ ProfileFormat.Lines → IsSufficient w.checked zs o.steps enough) c.deref-2.ensures.value
+    c.in-Ok-sufficient_beside.ensures)

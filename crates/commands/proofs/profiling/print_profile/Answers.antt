@@ -11,6 +11,7 @@ returns-in-Ok-write_made g c =
       p.waves.report.end,
       p.waves.report.counts.items,
       p.rows.items,
+      p.sufficient,
       c.in-Ok.ensures,
       printed _ _ _ _ _ _ _ (profiled c.args.format p.waves.report.end p.rows.items) refl c.profiled.ensures c.in-Ok-write_made.ensures,
     )
@@ -23,6 +24,7 @@ returns g c =
       p.waves.report.end,
       p.waves.report.counts.items,
       p.rows.items,
+      p.sufficient,
       c.in-Ok.ensures,
       stopped _ _ _ _ _ _ (profiled c.args.format p.waves.report.end p.rows.items) refl c.in-Err-write_made.ensures,
     )

@@ -10,8 +10,8 @@ pub returns-in-Lines : goal.returns-in-Lines
 returns-in-Lines g c =
     let p = c.args.profile.now in
     let w = p.waves in
-    let e1 = ap (λ (h : Graph). profile_text h.arrays w.report.counts.items c.deref.result.now w.report.end) c.graph.ensures.same in
-    let e2 = ap (λ (rows : List MachineRow). profile_text w.checked.arrays w.report.counts.items rows w.report.end) c.deref.ensures.value in
+    let e1 = ap (λ (h : Graph). profile_text h.arrays w.report.counts.items c.deref.result.now p.sufficient w.report.end) c.graph.ensures.same in
+    let e2 = ap (λ (rows : List MachineRow). profile_text w.checked.arrays w.report.counts.items rows p.sufficient w.report.end) c.deref.ensures.value in
     rw c.in-Lines.is (sends_same c.write_profile.result _ _ _ _ (e1 ∙ e2) c.write_profile.ensures)
 
 pub returns-in-Picture : goal.returns-in-Picture

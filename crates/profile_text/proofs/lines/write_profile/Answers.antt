@@ -4,7 +4,7 @@ use Rattle.std.proofs.lemmas.Result.{err_from_is_err_and}
 use Rattle.sink.proofs.Sent.{appends_then, sends_from, sends_more, sends_less, sends_other, sends_same}
 use Rattle.semantics.specs.Graph.{Graph}
 use Rattle.oracle.specs.Waves.{work}
-use Rattle.profile_text.specs.ProfileText.{totals_text, waves_text, row_line, end_line}
+use Rattle.profile_text.specs.ProfileText.{totals_text, waves_text, row_line, last_text}
 use Rattle.profile_text.proofs.lines.write_profile.Goals as goal
 
 pub returns-in_err-send_totals : goal.returns-in_err-send_totals
@@ -13,7 +13,7 @@ returns-in_err-send_totals g c =
     let t1 : List ℕ = totals_text (work c.args.waves.now.counts.items) (length c.args.waves.now.counts.items) in
     let t2 : List ℕ = waves_text c.args.waves.now.counts.items in
     let t3 : List ℕ = flat_map (row_line c.args.graph.now.arrays) c.args.rows.now in
-    let t4 : List ℕ = end_line c.args.graph.now.arrays c.args.waves.now.end in
+    let t4 : List ℕ = last_text c.args.graph.now.arrays c.args.sufficient c.args.waves.now.end in
     let w0 : Option (List ℕ) = g.W.Write.contents c.args.writer.now in
     let w1 : Option (List ℕ) = g.W.Write.contents c.send_totals.new.writer in
     let e1 = ap (λ l. totals_text (work l) (length l)) c.deref.ensures.value in
@@ -27,7 +27,7 @@ returns-in_err-send_waves g c =
     let t1 : List ℕ = totals_text (work c.args.waves.now.counts.items) (length c.args.waves.now.counts.items) in
     let t2 : List ℕ = waves_text c.args.waves.now.counts.items in
     let t3 : List ℕ = flat_map (row_line c.args.graph.now.arrays) c.args.rows.now in
-    let t4 : List ℕ = end_line c.args.graph.now.arrays c.args.waves.now.end in
+    let t4 : List ℕ = last_text c.args.graph.now.arrays c.args.sufficient c.args.waves.now.end in
     let w0 : Option (List ℕ) = g.W.Write.contents c.args.writer.now in
     let w1 : Option (List ℕ) = g.W.Write.contents c.send_totals.new.writer in
     let w2 : Option (List ℕ) = g.W.Write.contents c.send_waves.new.writer in
@@ -44,7 +44,7 @@ returns-in_err-send_rows g c =
     let t1 : List ℕ = totals_text (work c.args.waves.now.counts.items) (length c.args.waves.now.counts.items) in
     let t2 : List ℕ = waves_text c.args.waves.now.counts.items in
     let t3 : List ℕ = flat_map (row_line c.args.graph.now.arrays) c.args.rows.now in
-    let t4 : List ℕ = end_line c.args.graph.now.arrays c.args.waves.now.end in
+    let t4 : List ℕ = last_text c.args.graph.now.arrays c.args.sufficient c.args.waves.now.end in
     let w0 : Option (List ℕ) = g.W.Write.contents c.args.writer.now in
     let w1 : Option (List ℕ) = g.W.Write.contents c.send_totals.new.writer in
     let w2 : Option (List ℕ) = g.W.Write.contents c.send_waves.new.writer in
@@ -64,18 +64,18 @@ returns g c =
     let t1 : List ℕ = totals_text (work c.args.waves.now.counts.items) (length c.args.waves.now.counts.items) in
     let t2 : List ℕ = waves_text c.args.waves.now.counts.items in
     let t3 : List ℕ = flat_map (row_line c.args.graph.now.arrays) c.args.rows.now in
-    let t4 : List ℕ = end_line c.args.graph.now.arrays c.args.waves.now.end in
+    let t4 : List ℕ = last_text c.args.graph.now.arrays c.args.sufficient c.args.waves.now.end in
     let w0 : Option (List ℕ) = g.W.Write.contents c.args.writer.now in
     let w1 : Option (List ℕ) = g.W.Write.contents c.send_totals.new.writer in
     let w2 : Option (List ℕ) = g.W.Write.contents c.send_waves.new.writer in
     let w3 : Option (List ℕ) = g.W.Write.contents c.send_rows.new.writer in
-    let w4 : Option (List ℕ) = g.W.Write.contents c.send_end.new.writer in
+    let w4 : Option (List ℕ) = g.W.Write.contents c.send_last.new.writer in
     let e1 = ap (λ l. totals_text (work l) (length l)) c.deref.ensures.value in
     let e2 = ap waves_text c.deref-2.ensures.value in
     let e3 = ap (λ l. flat_map (row_line l) c.args.rows.now) (c.deref-3.ensures.value ∙ ap (λ (h : Graph). h.arrays) c.graph.view_is) in
-    let e4 = ap (λ l. end_line l c.args.waves.now.end) (c.deref-4.ensures.value ∙ ap (λ (h : Graph). h.arrays) c.graph.view_is) in
-    sends_more c.send_end.result w0 w3 w4 ((t1 ++ t2) ++ t3) t4
+    let e4 = ap (λ l. last_text l c.args.sufficient c.args.waves.now.end) (c.deref-4.ensures.value ∙ ap (λ (h : Graph). h.arrays) c.graph.view_is) in
+    sends_more c.send_last.result w0 w3 w4 ((t1 ++ t2) ++ t3) t4
     (appends_then w0 w2 w3 (t1 ++ t2) t3 (appends_then w0 w1 w2 t1 t2 (sends_from c.send_totals.result w0 w1 t1 c.in_ok-send_totals.was
     (sends_same c.send_totals.result w0 w1 _ t1 e1 c.send_totals.ensures)) (sends_from c.send_waves.result w1 w2 t2 c.in_ok-send_waves.was
     (sends_same c.send_waves.result w1 w2 _ t2 e2 c.send_waves.ensures))) (sends_from c.send_rows.result w2 w3 t3 c.in_ok-send_rows.was
-    (sends_same c.send_rows.result w2 w3 _ t3 e3 c.send_rows.ensures))) (sends_same c.send_end.result w3 w4 _ t4 e4 c.send_end.ensures)
+    (sends_same c.send_rows.result w2 w3 _ t3 e3 c.send_rows.ensures))) (sends_same c.send_last.result w3 w4 _ t4 e4 c.send_last.ensures)

@@ -1,0 +1,9 @@
+use Rattle.std.proofs.Common.{◌∙◌}
+use Rattle.sink.proofs.Sent.{sends_same}
+use Rattle.profile_text.proofs.sufficient.send_bounded.Goals as goal
+
+pub returns : goal.returns
+returns g c =
+    let x0 = c.as_bytes-number.ensures.value ∙ c.format.ensures.text in
+    let x1 = c.as_bytes-bound.ensures.value ∙ c.format-2.ensures.text in
+    sends_same c.send_all.result _ _ _ _ (simp (x0, x1)) c.send_all.ensures

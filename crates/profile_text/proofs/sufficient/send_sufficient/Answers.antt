@@ -1,0 +1,24 @@
+use Rattle.std.proofs.Common.{ℕ, List, Option}
+use Rattle.std.specs.Prelude.{codes}
+use Rattle.std.proofs.lemmas.Result.{err_from_is_err_and}
+use Rattle.profile_text.specs.ProfileText.{sufficient_line}
+use Rattle.sink.proofs.Sent.{sends_from, sends_more, sends_less, sends_other}
+use Rattle.profile_text.proofs.sufficient.send_sufficient.Goals as goal
+
+pub returns-in_err-send_number : goal.returns-in_err-send_number
+returns-in_err-send_number g c =
+    let p = err_from_is_err_and c.from_residual.result c.from_residual.ensures.1 in
+    let t1 : List ℕ = sufficient_line (codes "frames") c.args.sufficient.now.iterations c.args.sufficient.now.frames in
+    let t2 : List ℕ = sufficient_line (codes "steps") c.args.sufficient.now.iterations c.args.sufficient.now.steps in
+    let w0 : Option (List ℕ) = g.W.Write.contents c.args.writer.now in
+    let w1 : Option (List ℕ) = g.W.Write.contents c.send_number.new.writer in
+    rw p.1 (sends_less p.0 w0 w1 t1 t2 (sends_other c.in_err-send_number.field-0.0 p.0 w0 w1 t1 c.in_err-send_number.ensures))
+
+pub returns : goal.returns
+returns g c =
+    let t1 : List ℕ = sufficient_line (codes "frames") c.args.sufficient.now.iterations c.args.sufficient.now.frames in
+    let t2 : List ℕ = sufficient_line (codes "steps") c.args.sufficient.now.iterations c.args.sufficient.now.steps in
+    let w0 : Option (List ℕ) = g.W.Write.contents c.args.writer.now in
+    let w1 : Option (List ℕ) = g.W.Write.contents c.send_number.new.writer in
+    let w2 : Option (List ℕ) = g.W.Write.contents c.send_number-2.new.writer in
+    sends_more c.send_number-2.result w0 w1 w2 t1 t2 (sends_from c.send_number.result w0 w1 t1 c.in_ok-send_number.was c.send_number.ensures) c.send_number-2.ensures
