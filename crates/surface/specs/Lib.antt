@@ -4,3 +4,15 @@ pub mod Spelled
 pub mod Fits
 pub mod Words
 pub mod Parses
+pub mod First
+pub mod Known
+pub mod Outside
+pub mod Constants
+pub mod Rules
+pub mod Making
+pub mod CoreForms
+pub mod Desugar
+pub mod Instances
+pub mod Desugared
+pub mod Embedded
+pub mod Deep
