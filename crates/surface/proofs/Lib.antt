@@ -1,1 +1,6 @@
-
+mod Spelling
+mod ReadTokens
+mod ReadSamples
+mod RefusedSamples
+mod SampleWords
+mod ShortFor

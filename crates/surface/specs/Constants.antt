@@ -1,5 +1,5 @@
 -- CONSTANTS. Each step of one is an integer of 64 bits; there is no division by zero, and a shift is by 0 to 63.
-use Rattle.std.specs.Prelude.{ℕ, suc, ◌^◌, ◌&&◌, ◌||◌, not, Bool, true, false, ℤ, pos, negsuc, ◌+ℤ◌, ◌-ℤ◌, ◌*ℤ◌, neg_ℤ, int_lt, int_le, int_div}
+use Rattle.std.specs.Prelude.{ℕ, ◌^◌, ◌&&◌, Bool, ℤ, pos, negsuc, ◌+ℤ◌, ◌-ℤ◌, ◌*ℤ◌, neg_ℤ, int_lt, int_le}
 use Rattle.std.specs.Prelude.{Option, None, Some, Result, Ok, Err, if◌then◌else◌}
 use Rattle.tags.specs.declared.value.Value.{Value}
 use Rattle.tags.specs.declared.value.Value.TheVariants.{Int, Fault as FaultyValue}
@@ -17,7 +17,7 @@ use Rattle.source.specs.Outside.{is_in}
 use Rattle.surface.specs.declared.fault.Fault.{Fault}
 use Rattle.surface.specs.declared.fault.FaultKind.TheVariants.{Core, BadConst}
 use Rattle.surface.specs.Tree.{Count, Written, Constant, Expr, Number, Named, Bracket, Prefix, Infix, And, Or, Not, Fetch, Store, Call, If, Loop, For}
-use Rattle.surface.specs.First.{◌>>=◌, refused, must}
+use Rattle.surface.specs.First.{◌>>=◌, refused}
 use Rattle.surface.specs.Known.{Known, lookup, natural}
 
 -- the place of the token that stands for an expression

@@ -1,10 +1,10 @@
 -- FORMS OF THE CORE that derived ones are made of. Each token that stands for a derived form has its place.
-use Rattle.std.specs.Prelude.{ℕ, suc, ◌<◌, max, nat_lt, ℤ, pos, negsuc, List, [], ◌∷◌, map, Option, None, Some, if◌then◌else◌}
+use Rattle.std.specs.Prelude.{ℕ, suc, nat_lt, ℤ, pos, negsuc, List, [], ◌∷◌, map, Option, None, Some, if◌then◌else◌}
 use Rattle.operators.specs.declared.Unary.TheVariants.{Neg}
 use Rattle.operators.specs.declared.Binary.{Binary}
 use Rattle.operators.specs.declared.Binary.TheVariants.{Add, Sub, Mul, Div, And, Or, Xor, Shr, Ne, Lt}
 use Rattle.source.specs.declared.word.InfixSign.TheVariants.{Direct}
-use Rattle.source.specs.Tree.{Name, NameAt, NumberAt, Target, Bind, Drop, Expr, Number, Named, Bracket, Prefix, Infix, If, Loop, Exprs, One, More}
+use Rattle.source.specs.Tree.{Name, NameAt, NumberAt, Target, Drop, Expr, Number, Named, Bracket, Prefix, Infix, If, Loop, Exprs, One, More}
 use Rattle.source.specs.Tree.{Body, Let, Do, Give, Chain, After}
 use Rattle.source.specs.Fits.{level, sign_level, left_level}
 use Rattle.surface.specs.Making.{target}

@@ -1,8 +1,8 @@
 -- HOW DEEP THE CORE IS: the place of the first part with which more than 200 would be open at once, as `Fits.depth` of the core
 -- counts them. `d` are open around the part.
-use Rattle.std.specs.Prelude.{ℕ, suc, ◌+◌, ◌==◌, Bool, List, [], ◌∷◌, Option, None, Some, if◌then◌else◌}
+use Rattle.std.specs.Prelude.{ℕ, ◌+◌, ◌==◌, [], ◌∷◌, Option, None, Some, if◌then◌else◌}
 use Rattle.operators.specs.declared.Unary.{Unary}
-use Rattle.operators.specs.declared.Unary.TheVariants.{Neg, Not}
+use Rattle.operators.specs.declared.Unary.TheVariants.{Neg}
 use Rattle.source.specs.Tree.{Expr, Number, Named, Bracket, Prefix, Infix, Fetch, Store, Call, If, Loop, Exprs, One, More, Body, Let, Do, Give, Chain}
 use Rattle.source.specs.Tree.{Turn, Before, After, Item, Cells, Defines, Program}
 use Rattle.source.specs.Rules.{place_of}

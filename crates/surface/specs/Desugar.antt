@@ -1,18 +1,18 @@
 -- WHAT DERIVED FORMS ARE SHORT FOR. The meaning of a form is what it is short for.
-use Rattle.std.specs.Prelude.{ℕ, ◌==◌, ◌&&◌, ◌||◌, not, Bool, true, false, ℤ, pos, List, [], ◌∷◌, ◌++◌, map, length, is_some, slice_index_or}
-use Rattle.std.specs.Prelude.{Option, None, Some, ⊤, if◌then◌else◌}
+use Rattle.std.specs.Prelude.{ℕ, ◌&&◌, ◌||◌, not, Bool, true, false, ℤ, List, [], ◌∷◌, is_some, slice_index_or}
+use Rattle.std.specs.Prelude.{Option, None, Some, if◌then◌else◌}
 use Rattle.semantics.specs.Graph.{same_name}
 use Rattle.operators.specs.declared.Binary.TheVariants.{Lt, Eq, Or as BitOr}
 use Rattle.source.specs.Tree as core
 use Rattle.source.specs.Tree.{Name, NameAt, NumberAt, Target}
-use Rattle.source.specs.Outside.{is_in, bare, bound_by}
-use Rattle.surface.specs.Tree.{Count, Written, Constant, Expr, Number, Named, Bracket, Prefix, Infix, And, Or, Not, Fetch, Store, Call, If, Loop, For}
+use Rattle.source.specs.Outside.{is_in, bare}
+use Rattle.surface.specs.Tree.{Count, Expr, Number, Named, Bracket, Prefix, Infix, And, Or, Not, Fetch, Store, Call, If, Loop, For}
 use Rattle.surface.specs.Tree.{Exprs, One, More, Body, Let, Do, When, Give, Chain, Tests, Last, Else, Turn, Before, After, Carried, Nothing, With}
 use Rattle.surface.specs.Tree.{carried_names}
-use Rattle.surface.specs.Known.{Known, lookup, some_or, BuiltIn, Min, Max, Abs, Len, Callee, Missing, OfValues, OfArrays, IsBuiltIn, callee}
+use Rattle.surface.specs.Known.{Known, lookup, some_or, Min, Max, Abs, Len, Missing, OfValues, OfArrays, IsBuiltIn, callee}
 use Rattle.surface.specs.Constants.{place_of, constant, counted, number_or_zero}
 use Rattle.surface.specs.Rules.{is_constant, is_numeral}
-use Rattle.surface.specs.Making.{Held, Made, Making, made, ◌>>=◌, fresh, hold, target, bound_to, under, enclosed, inside, otherwise}
+use Rattle.surface.specs.Making.{Held, Made, made, ◌>>=◌, fresh, hold, target, bound_to, under, enclosed, inside, otherwise}
 use Rattle.surface.specs.CoreForms.{infix_at, numeral, giving, both, both_true, either_of, test_under, chosen, sign_of, without_sign, row, is_other_row}
 use Rattle.surface.specs.CoreForms.{some_other, checked_index, counting, carrying}
 
@@ -79,14 +79,6 @@ atom s hiding e m = if stands_for_itself s hiding e then m else (do
 abbrev pub as_name : Setting → ℕ → core.Expr → (ℕ → Made core.Expr)
 as_name s at (core.Named x_at x) = made (core.Named x_at x)
 as_name s at e = bound_to s.prefix at e
-
--- the names that the `let`s of an arm bind
-abbrev pub bound_in : Body → List Name
-bound_in (Let at targets es rest) = bound_by targets ++ bound_in rest
-bound_in (Do es rest) = bound_in rest
-bound_in (When tests rest) = bound_in rest
-bound_in (Give es) = []
-bound_in (Chain e) = []
 
 -- a name's value: that of a constant, or a value
 abbrev pub constant_or_value : ℕ → Name → Option ℤ → core.Expr
@@ -169,29 +161,29 @@ abbrev mutual
     x ← desugar s false d
     made (core.Store at (array_for s a) i x)
   desugar s truth (Call at strict f es) = elim (callee s.known strict f) as (λ _. ℕ → Made core.Expr) [
-      Missing ↦ do
-        vs ← desugar_all s es
-        made (core.Call at strict f vs)
+    | Missing ↦ do
+      vs ← desugar_all s es
+      made (core.Call at strict f vs)
     | OfValues params results ↦ do
-        vs ← desugar_all s es
-        made (core.Call at strict f vs)
+      vs ← desugar_all s es
+      made (core.Call at strict f vs)
     | OfArrays ranks results ↦ do
-        vs ← desugar_values s es
-        made (core.Call at strict (instance_name s.instances f (arrays_passed s es)) (values_or_zero at vs))
+      vs ← desugar_values s es
+      made (core.Call at strict (instance_name s.instances f (arrays_passed s es)) (values_or_zero at vs))
     | IsBuiltIn which ↦ elim which as (λ _. ℕ → Made core.Expr) [
-          Len ↦ made (core.Number at (measure s es))
-        | Abs ↦ do
-            x ← desugar_first s es
-            sign ← bound_to s.prefix at (sign_of at x)
-            made (without_sign at x sign)
-        | Max ↦ do
-            pair ← desugar_pair s at es
-            made (chosen at pair.0 pair.1 (infix_at at Lt pair.0 pair.1))
-        | Min ↦ do
-            pair ← desugar_pair s at es
-            made (chosen at pair.0 pair.1 (infix_at at Lt pair.1 pair.0))
-      ]
+      | Len ↦ made (core.Number at (measure s es))
+      | Abs ↦ do
+        x ← desugar_first s es
+        sign ← bound_to s.prefix at (sign_of at x)
+        made (without_sign at x sign)
+      | Max ↦ do
+        pair ← desugar_pair s at es
+        made (chosen at pair.0 pair.1 (infix_at at Lt pair.0 pair.1))
+      | Min ↦ do
+        pair ← desugar_pair s at es
+        made (chosen at pair.0 pair.1 (infix_at at Lt pair.1 pair.0))
     ]
+  ]
   desugar s truth (If at p l r) = do
     q ← desugar s false p
     left ← desugar_body s l
@@ -240,18 +232,18 @@ abbrev mutual
   -- the arguments that are values
   pub desugar_values : Setting → Exprs → (ℕ → Made (Option core.Exprs))
   desugar_values s (One e) = elim (array_passed s e) as (λ _. ℕ → Made (Option core.Exprs)) [
-      Some array ↦ made None
+    | Some array ↦ made None
     | None ↦ do
-        x ← desugar s false e
-        made (Some (core.One x))
-    ]
+      x ← desugar s false e
+      made (Some (core.One x))
+  ]
   desugar_values s (More e es) = elim (array_passed s e) as (λ _. ℕ → Made (Option core.Exprs)) [
-      Some array ↦ desugar_values s es
+    | Some array ↦ desugar_values s es
     | None ↦ do
-        x ← desugar s false e
-        xs ← desugar_values s es
-        made (Some (and_others x xs))
-    ]
+      x ← desugar s false e
+      xs ← desugar_values s es
+      made (Some (and_others x xs))
+  ]
 
   pub desugar_first : Setting → Exprs → (ℕ → Made core.Expr)
   desugar_first s (One e) = atom s [] e (desugar s false e)
@@ -308,14 +300,14 @@ abbrev mutual
     made (core.Give vs))
   desugar_body s (Chain e) = otherwise (desugar s false e)
 
-  -- Each arm does its part and gives its test.
+  -- Each arm does its part, and gives its test, which nobody asks for.
   pub desugar_tests : Setting → Tests → (ℕ → Made core.Expr)
   desugar_tests s (Last at p arm) = do
-    q ← atom s (bound_in arm) p (desugar s false p)
+    q ← atom s [] p (desugar s false p)
     left ← desugar_body s arm
     made (core.If at q (giving (core.One q) left) (core.Give (core.One q)))
   desugar_tests s (Else at p arm more) = do
-    q ← atom s (bound_in arm) p (desugar s false p)
+    q ← atom s [] p (desugar s false p)
     left ← desugar_body s arm
     right ← otherwise (desugar_tests s more)
     made (core.If at q (giving (core.One q) left) right)

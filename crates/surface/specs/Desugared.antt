@@ -1,13 +1,13 @@
 -- WHAT A PROGRAM IS SHORT FOR: a program of the core; or the first fault that only the core shows.
-use Rattle.std.specs.Prelude.{◌≡◌, ℕ, suc, ◌<◌, ◌≤◌, ◌==◌, ◌&&◌, not, nat_le, nat_lt, Bool, true, false, List, [], ◌∷◌, ◌++◌, map, drop, length, option_map}
-use Rattle.std.specs.Prelude.{Option, None, Some, Result, Ok, Err, ⊤, if◌then◌else◌}
+use Rattle.std.specs.Prelude.{ℕ, List, [], ◌∷◌, ◌++◌, drop}
+use Rattle.std.specs.Prelude.{Option, None, Some, Result, Ok, ⊤, if◌then◌else◌}
 use Rattle.semantics.specs.Graph.{same_name}
 use Rattle.source.specs.declared.fault.FaultKind.TheVariants.{TooBig}
 use Rattle.source.specs.Tree as core
 use Rattle.source.specs.Tree.{Name, NameAt, NumberAt}
 use Rattle.surface.specs.declared.fault.Fault.{Fault}
 use Rattle.surface.specs.declared.fault.FaultKind.TheVariants.{Core}
-use Rattle.surface.specs.Tree.{Count, Exprs, Function, Item, Cells, Const, Defines, Program}
+use Rattle.surface.specs.Tree.{Count, Function, Item, Cells, Const, Defines, Program}
 use Rattle.surface.specs.First.{◌>>=◌, refused}
 use Rattle.surface.specs.Known.{Known, nothing, lookup, some_or, product, all_values}
 use Rattle.surface.specs.Constants.{counted}

@@ -1,9 +1,9 @@
 -- A PROGRAM OF THE CORE is one without derived forms.
-use Rattle.std.specs.Prelude.{List, [], ◌∷◌, map, option_map, Option}
+use Rattle.std.specs.Prelude.{map, option_map}
 use Rattle.source.specs.Tree as core
 use Rattle.source.specs.Tree.{NameAt, NumberAt}
 use Rattle.surface.specs.Tree.{Count, Written, Expr, Number, Named, Bracket, Prefix, Infix, Fetch, Store, Call, If, Loop}
-use Rattle.surface.specs.Tree.{Exprs, One, More, Body, Let, Do, Give, Chain, Turn, Before, After, Param, Function, Item, Cells, Defines, Program}
+use Rattle.surface.specs.Tree.{Exprs, One, More, Body, Let, Do, Give, Chain, Turn, Before, After, Param, Item, Cells, Defines, Program}
 
 abbrev pub written : NumberAt → Count
 written n = Written n.at n.number

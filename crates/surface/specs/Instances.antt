@@ -1,16 +1,16 @@
 -- INSTANCES of functions that have parameters for arrays: one for each list of arrays with which they are called.
-use Rattle.std.specs.Prelude.{ℕ, zero, suc, ◌+◌, ◌-◌, ◌==◌, ◌&&◌, ◌||◌, not, nat_le, nat_lt, Bool, true, false, List, [], ◌∷◌, ◌++◌, map, length}
+use Rattle.std.specs.Prelude.{ℕ, zero, suc, ◌+◌, ◌==◌, ◌&&◌, ◌||◌, not, nat_le, Bool, false, List, [], ◌∷◌, ◌++◌, length}
 use Rattle.std.specs.Prelude.{slice_get, codes, decimal, filter_map, Option, None, Some, if◌then◌else◌}
 use Rattle.std.specs.List.{list_any}
 use Rattle.semantics.specs.Graph.{same_name}
-use Rattle.source.specs.Tree.{Name, NameAt}
+use Rattle.source.specs.Tree.{Name}
 use Rattle.source.specs.Tokens.{begins, has_double}
 use Rattle.source.specs.Outside.{is_in}
 use Rattle.surface.specs.Tree.{Expr, Number, Named, Bracket, Prefix, Infix, And, Or, Not, Fetch, Store, Call, If, Loop, For}
 use Rattle.surface.specs.Tree.{Exprs, One, More, Body, Let, Do, When, Give, Chain, Tests, Last, Else, Turn, Before, After, Carried, Nothing, With}
-use Rattle.surface.specs.Tree.{Param, Function, Item, Cells, Const, Defines, Program}
+use Rattle.surface.specs.Tree.{Param, Function, Cells, Const, Defines, Program}
 use Rattle.surface.specs.Spelled.{Lexeme, TheWord, TheSign, TheNumber, TheName, Spelling, program_tokens}
-use Rattle.surface.specs.Known.{Known, all_values, Callee, Missing, OfValues, OfArrays, IsBuiltIn, callee}
+use Rattle.surface.specs.Known.{all_values, Callee, Missing, OfValues, OfArrays, IsBuiltIn, callee}
 use Rattle.surface.specs.Rules.{ranks}
 use Rattle.surface.specs.Desugar.{Instance, Setting, arrays_passed, same_names}
 
@@ -132,9 +132,9 @@ plain_wants s (Defines f ∷ items) = (if all_values (ranks f.params) then funct
 abbrev pub closed : ℕ → Setting → Program → ℕ → List Wanted → List Wanted
 closed zero s p n all = all
 closed (suc more) s p n all = elim (slice_get all n) as (λ _. List Wanted) [
-    None ↦ all
+  | None ↦ all
   | Some w ↦ closed more s p (n + 1) (and_new all (instance_wants s p w))
-  ]
+]
 
 abbrev pub all_wanted : Setting → Program → List Wanted
 all_wanted s p = closed 257 s p 0 (and_new [] (plain_wants s p))

@@ -1,6 +1,6 @@
 -- WHAT IS KNOWN OF ITEMS: the constants with their values, the arrays with their lengths, and the functions.
-use Rattle.std.specs.Prelude.{ℕ, zero, suc, ◌+◌, ◌*◌, ◌==◌, ◌&&◌, ◌||◌, not, nat_lt, Bool, true, false, ℤ, pos, negsuc, List, [], ◌∷◌, length, codes}
-use Rattle.std.specs.Prelude.{slice_index_or, is_some, option_map, Option, None, Some, if◌then◌else◌}
+use Rattle.std.specs.Prelude.{ℕ, ◌*◌, ◌==◌, ◌&&◌, ◌||◌, Bool, true, false, ℤ, pos, negsuc, List, [], ◌∷◌, length, codes}
+use Rattle.std.specs.Prelude.{Option, None, Some, if◌then◌else◌}
 use Rattle.semantics.specs.Graph.{same_name}
 use Rattle.source.specs.Tree.{Name}
 

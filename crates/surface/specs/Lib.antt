@@ -16,3 +16,5 @@ pub mod Instances
 pub mod Desugared
 pub mod Embedded
 pub mod Deep
+pub mod Placed
+pub mod Samples

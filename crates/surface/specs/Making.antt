@@ -1,7 +1,7 @@
 -- WHAT IS MADE OF A PART: something of the core, the `let`s that go before the statement which it is in, and how many hidden
 -- names the function has now. Nothing in a program has an order, so a value may be named before the statement.
-use Rattle.std.specs.Prelude.{ℕ, ◌+◌, Bool, true, false, List, [], ◌∷◌, ◌++◌, decimal, ⊤}
-use Rattle.source.specs.Tree.{Name, NameAt, Target, Bind, Expr, Named, Exprs, One, Body, Let, Give, Chain}
+use Rattle.std.specs.Prelude.{ℕ, ◌+◌, List, [], ◌∷◌, ◌++◌, decimal, ⊤}
+use Rattle.source.specs.Tree.{Name, Target, Bind, Expr, Named, Exprs, One, Body, Let, Give, Chain}
 
 -- a `let` before a statement
 pub record Held : Type 0 where

@@ -1,6 +1,6 @@
 -- THE NAMES OF VALUES that a turn takes from outside.
-use Rattle.std.specs.Prelude.{ℕ, not, Bool, List, [], ◌∷◌, ◌++◌}
-use Rattle.source.specs.Tree.{Name, NameAt}
+use Rattle.std.specs.Prelude.{List, [], ◌∷◌, ◌++◌}
+use Rattle.source.specs.Tree.{Name}
 use Rattle.source.specs.Outside.{without, once, bare, bound_by}
 use Rattle.surface.specs.Tree.{Expr, Number, Named, Bracket, Prefix, Infix, And, Or, Not, Fetch, Store, Call, If, Loop, For}
 use Rattle.surface.specs.Tree.{Exprs, One, More, Body, Let, Do, When, Give, Chain, Tests, Last, Else, Turn, Before, After, Carried, Nothing, With}

@@ -1,7 +1,7 @@
 -- THE STATIC RULES, and the first fault of a program that breaks one. First the heads of the items, in order; then whether
 -- there is a function `main`; then the functions, in order. What only the core shows is in `Desugared`.
-use Rattle.std.specs.Prelude.{ℕ, suc, ◌+◌, ◌*◌, ◌==◌, ◌&&◌, ◌||◌, not, nat_le, nat_lt, max, Bool, true, false, ℤ, pos, int_le, int_lt, List, [], ◌∷◌}
-use Rattle.std.specs.Prelude.{◌++◌, length, map, drop, replicate, is_some, Option, None, Some, Result, Ok, Err, ⊤, if◌then◌else◌}
+use Rattle.std.specs.Prelude.{ℕ, suc, ◌+◌, ◌*◌, ◌==◌, ◌&&◌, ◌||◌, not, nat_le, nat_lt, Bool, true, false, pos, int_le, int_lt, List, [], ◌∷◌}
+use Rattle.std.specs.Prelude.{◌++◌, length, map, drop, replicate, is_some, Option, None, Some, Result, Ok, ⊤, if◌then◌else◌}
 use Rattle.operators.specs.declared.Unary.{Unary}
 use Rattle.operators.specs.declared.Unary.TheVariants.{Neg, Not as Flip}
 use Rattle.semantics.specs.Graph.{same_name}
@@ -11,14 +11,14 @@ use Rattle.source.specs.Spelled.{others}
 use Rattle.source.specs.Outside.{is_in, bare, bound_by}
 use Rattle.source.specs.Rules.{main_name, and_first}
 use Rattle.surface.specs.declared.fault.Fault.{Fault}
-use Rattle.surface.specs.declared.fault.FaultKind.TheVariants.{BadConst, BadArray, Core}
-use Rattle.surface.specs.Tree.{Count, Written, Constant, Expr, Number, Named, Bracket, Prefix, Infix, And, Or, Not, Fetch, Store, Call, If, Loop, For}
+use Rattle.surface.specs.declared.fault.FaultKind.TheVariants.{BadArray, Core}
+use Rattle.surface.specs.Tree.{Count, Expr, Number, Named, Bracket, Prefix, Infix, And, Or, Not, Fetch, Store, Call, If, Loop, For}
 use Rattle.surface.specs.Tree.{Exprs, One, More, Body, Let, Do, When, Give, Chain, Tests, Last, Else, Turn, Before, After, Carried, Nothing, With}
 use Rattle.surface.specs.Tree.{Param, Function, Item, Cells, Const, Defines, Program, names_of, carried_names}
 use Rattle.surface.specs.Fits.{count}
 use Rattle.surface.specs.First.{◌>>=◌, refused, must, must_be}
-use Rattle.surface.specs.Known.{Known, Signature, nothing, lookup, natural, product, all_values, some_value}
-use Rattle.surface.specs.Known.{BuiltIn, Min, Max, Abs, Len, Callee, Missing, OfValues, OfArrays, IsBuiltIn, callee}
+use Rattle.surface.specs.Known.{Known, nothing, lookup, natural, product, some_value}
+use Rattle.surface.specs.Known.{Min, Max, Abs, Len, Missing, OfValues, OfArrays, IsBuiltIn, callee}
 use Rattle.surface.specs.Constants.{place_of, constant, count_place, count_of, number_or_zero}
 use Rattle.surface.specs.Outside.{outside_turn, outside_for}
 
@@ -286,31 +286,31 @@ abbrev mutual
     n ← values a scope d
     one_value d n
   values a scope (Call at strict f es) = elim (callee a.known strict f) as (λ _. Result ℕ Fault) [
-      Missing ↦ refused (Core NoSuchName) at
+    | Missing ↦ refused (Core NoSuchName) at
     | OfValues params results ↦ do
-        n ← list_values a scope es
-        all ← must_be (n == params) Arity at
-        Ok results
+      n ← list_values a scope es
+      all ← must_be (n == params) Arity at
+      Ok results
     | OfArrays ranks results ↦ do
-        found ← argument_ranks a scope es
-        all ← must_be (same_ranks found ranks) Arity at
-        Ok results
+      found ← argument_ranks a scope es
+      all ← must_be (same_ranks found ranks) Arity at
+      Ok results
     | IsBuiltIn which ↦ elim which as (λ _. Result ℕ Fault) [
-          Len ↦ measured a at es
-        | Min ↦ do
-            n ← list_values a scope es
-            all ← must_be (n == 2) Arity at
-            Ok 1
-        | Max ↦ do
-            n ← list_values a scope es
-            all ← must_be (n == 2) Arity at
-            Ok 1
-        | Abs ↦ do
-            n ← list_values a scope es
-            all ← must_be (n == 1) Arity at
-            Ok 1
-      ]
+      | Len ↦ measured a at es
+      | Min ↦ do
+        n ← list_values a scope es
+        all ← must_be (n == 2) Arity at
+        Ok 1
+      | Max ↦ do
+        n ← list_values a scope es
+        all ← must_be (n == 2) Arity at
+        Ok 1
+      | Abs ↦ do
+        n ← list_values a scope es
+        all ← must_be (n == 1) Arity at
+        Ok 1
     ]
+  ]
   values a scope (If at q l r) = do
     n ← values a scope q
     one ← one_value q n
@@ -361,20 +361,20 @@ abbrev mutual
   -- the dimensions of each array that is passed, and 0 for each value
   pub argument_ranks : Around → List Name → Exprs → Result (List ℕ) Fault
   argument_ranks a scope (One e) = elim (argument_rank a e) as (λ _. Result (List ℕ) Fault) [
-      Some rank ↦ Ok (rank ∷ [])
+    | Some rank ↦ Ok (rank ∷ [])
     | None ↦ do
-        n ← values a scope e
-        Ok (replicate n 0)
-    ]
+      n ← values a scope e
+      Ok (replicate n 0)
+  ]
   argument_ranks a scope (More e es) = elim (argument_rank a e) as (λ _. Result (List ℕ) Fault) [
-      Some rank ↦ do
-        others ← argument_ranks a scope es
-        Ok (rank ∷ others)
+    | Some rank ↦ do
+      others ← argument_ranks a scope es
+      Ok (rank ∷ others)
     | None ↦ do
-        n ← values a scope e
-        others ← argument_ranks a scope es
-        Ok (replicate n 0 ++ others)
-    ]
+      n ← values a scope e
+      others ← argument_ranks a scope es
+      Ok (replicate n 0 ++ others)
+  ]
 
   -- a loop's names, each with its first value; `before` are the names before in the list
   pub first_values : Around → List Name → List Name → List NameAt → Exprs → Result ⊤ Fault

@@ -1,6 +1,6 @@
 -- THE TOKENS OF A TEXT with derived forms. Blanks, runs, numbers and names are as in the core, where each of the new words is
 -- reserved: so each name of the core is one here, and there are no others.
-use Rattle.std.specs.Prelude.{ℕ, zero, suc, ◌+◌, ◌-◌, ◌^◌, ◌&&◌, not, nat_le, Bool, true, false, List, [], ◌∷◌, ◌++◌, map, length, find, bytes_eq}
+use Rattle.std.specs.Prelude.{ℕ, zero, suc, ◌+◌, ◌-◌, ◌^◌, ◌&&◌, not, nat_le, Bool, List, [], ◌∷◌, ◌++◌, map, length, find, bytes_eq}
 use Rattle.std.specs.Prelude.{take_while, codes, Option, None, Some, Result, Ok, Err, if◌then◌else◌}
 use Rattle.std.specs.List.{list_any}
 use Rattle.std.specs.Char.{is_ascii_digit}

@@ -1,6 +1,6 @@
 -- A PROGRAM WITH DERIVED FORMS, AS A TREE. Where a token may be faulty, or be the origin of a fault, the tree has its place
 -- in the text, as a tree of the core has it.
-use Rattle.std.specs.Prelude.{ℕ, Bool, List, [], ◌∷◌, Option}
+use Rattle.std.specs.Prelude.{ℕ, Bool, List, [], Option}
 use Rattle.operators.specs.declared.Unary.{Unary}
 use Rattle.source.specs.declared.word.InfixSign.{InfixSign}
 use Rattle.source.specs.Tree.{Name, NameAt, Target}

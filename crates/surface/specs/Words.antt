@@ -1,6 +1,6 @@
 -- THE WORDS OF A TREE: the tree in postfix order, as in the core. A parser appends each word where the tokens before it, and
 -- one more, settle it. So a statement that will have no last `else` begins as any `if`.
-use Rattle.std.specs.Prelude.{◌≡◌, ℕ, zero, suc, ◌<◌, ◌++◌, Bool, List, [], ◌∷◌, map, flat_map, length, All, Option, None, Some}
+use Rattle.std.specs.Prelude.{◌≡◌, ℕ, zero, suc, ◌<◌, ◌++◌, List, [], ◌∷◌, map, flat_map, length, All, Option, None, Some}
 use Rattle.source.specs.declared.word.Word.{Word as CoreWord}
 use Rattle.source.specs.declared.word.Word.TheVariants as core_word
 use Rattle.source.specs.Tree.{Name, NameAt, Target, Bind, Drop}
