@@ -46,7 +46,7 @@ in_64_bits at z = if is_in_64_bits z then Ok z else refused BadConst at
 
 -- what the operator of graphs gives, which is exact where nothing wraps
 abbrev pub integer_in : ℕ → Value → Result ℤ Fault
-integer_in at (Int z) = Ok z
+integer_in at (Int z) = in_64_bits at z
 integer_in at (FaultyValue k o) = refused BadConst at
 
 abbrev pub is_shift : ℤ → Bool
@@ -77,7 +77,7 @@ negated at z = in_64_bits at (neg_ℤ z)
 
 abbrev pub inverted : ℕ → Unary → ℤ → Result ℤ Fault
 inverted at unary.Neg z = negated at z
-inverted at unary.Not z = Ok (on_int unary.Not z)
+inverted at unary.Not z = in_64_bits at (on_int unary.Not z)
 
 -- a constant by its name, where those before it are known
 abbrev pub constant_or : Known → ℕ → Name → Option ℤ → Result ℤ Fault

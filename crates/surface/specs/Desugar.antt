@@ -9,7 +9,7 @@ use Rattle.source.specs.Outside.{is_in, bare}
 use Rattle.surface.specs.Tree.{Count, Expr, Number, Named, Bracket, Prefix, Infix, And, Or, Not, Fetch, Store, Call, If, Loop, For}
 use Rattle.surface.specs.Tree.{Exprs, One, More, Body, Let, Do, When, Give, Chain, Tests, Last, Else, Turn, Before, After, Carried, Nothing, With}
 use Rattle.surface.specs.Tree.{carried_names}
-use Rattle.surface.specs.Known.{Known, lookup, some_or, Min, Max, Abs, Len, Missing, OfValues, OfArrays, IsBuiltIn, callee}
+use Rattle.surface.specs.Known.{Known, lookup, some_or, Callee, Min, Max, Abs, Len, Missing, OfValues, OfArrays, IsBuiltIn, callee}
 use Rattle.surface.specs.Constants.{place_of, constant, counted, number_or_zero}
 use Rattle.surface.specs.Rules.{is_constant, is_numeral}
 use Rattle.surface.specs.Making.{Held, Made, made, ◌>>=◌, fresh, hold, target, bound_to, under, enclosed, inside, otherwise}
@@ -121,6 +121,39 @@ abbrev pub values_or_zero : ℕ → Option core.Exprs → core.Exprs
 values_or_zero at None = core.One (core.Number at 0)
 values_or_zero at (Some es) = es
 
+-- an argument, unless it is an array that is passed, before those that are values
+abbrev pub unless_passed : Option Name → (ℕ → Made core.Expr) → (ℕ → Made (Option core.Exprs)) → (ℕ → Made (Option core.Exprs))
+unless_passed (Some array) m rest = rest
+unless_passed None m rest = do
+  x ← m
+  xs ← rest
+  made (Some (and_others x xs))
+
+-- A call, by what is called, with the makings of its arguments: of all of them, of those that are values, of the first as an atom,
+-- and of two as atoms.
+abbrev pub call_made : Setting → ℕ → Bool → Name → Exprs → Callee → (ℕ → Made core.Exprs) → (ℕ → Made (Option core.Exprs)) → (ℕ → Made core.Expr)
+    → (ℕ → Made (core.Expr × core.Expr)) → (ℕ → Made core.Expr)
+call_made s at strict f es Missing all values first pair = do
+  vs ← all
+  made (core.Call at strict f vs)
+call_made s at strict f es (OfValues params results) all values first pair = do
+  vs ← all
+  made (core.Call at strict f vs)
+call_made s at strict f es (OfArrays ranks results) all values first pair = do
+  vs ← values
+  made (core.Call at strict (instance_name s.instances f (arrays_passed s es)) (values_or_zero at vs))
+call_made s at strict f es (IsBuiltIn Len) all values first pair = made (core.Number at (measure s es))
+call_made s at strict f es (IsBuiltIn Abs) all values first pair = do
+  x ← first
+  sign ← bound_to s.prefix at (sign_of at x)
+  made (without_sign at x sign)
+call_made s at strict f es (IsBuiltIn Max) all values first pair = do
+  two ← pair
+  made (chosen at two.0 two.1 (infix_at at Lt two.0 two.1))
+call_made s at strict f es (IsBuiltIn Min) all values first pair = do
+  two ← pair
+  made (chosen at two.0 two.1 (infix_at at Lt two.1 two.0))
+
 -- What each part is in the core. The flag says that only the truth of the expression is asked: it is a loop's test.
 abbrev mutual
   pub desugar : Setting → Bool → Expr → (ℕ → Made core.Expr)
@@ -160,30 +193,8 @@ abbrev mutual
     i ← desugar_index s at (lengths_for s a) es
     x ← desugar s false d
     made (core.Store at (array_for s a) i x)
-  desugar s truth (Call at strict f es) = elim (callee s.known strict f) as (λ _. ℕ → Made core.Expr) [
-    | Missing ↦ do
-      vs ← desugar_all s es
-      made (core.Call at strict f vs)
-    | OfValues params results ↦ do
-      vs ← desugar_all s es
-      made (core.Call at strict f vs)
-    | OfArrays ranks results ↦ do
-      vs ← desugar_values s es
-      made (core.Call at strict (instance_name s.instances f (arrays_passed s es)) (values_or_zero at vs))
-    | IsBuiltIn which ↦ elim which as (λ _. ℕ → Made core.Expr) [
-      | Len ↦ made (core.Number at (measure s es))
-      | Abs ↦ do
-        x ← desugar_first s es
-        sign ← bound_to s.prefix at (sign_of at x)
-        made (without_sign at x sign)
-      | Max ↦ do
-        pair ← desugar_pair s at es
-        made (chosen at pair.0 pair.1 (infix_at at Lt pair.0 pair.1))
-      | Min ↦ do
-        pair ← desugar_pair s at es
-        made (chosen at pair.0 pair.1 (infix_at at Lt pair.1 pair.0))
-    ]
-  ]
+  desugar s truth (Call at strict f es) = call_made s at strict f es (callee s.known strict f) (λ n. desugar_all s es n) (λ n. desugar_values s es n)
+      (λ n. desugar_first s es n) (λ n. desugar_pair s at es n)
   desugar s truth (If at p l r) = do
     q ← desugar s false p
     left ← desugar_body s l
@@ -231,19 +242,8 @@ abbrev mutual
 
   -- the arguments that are values
   pub desugar_values : Setting → Exprs → (ℕ → Made (Option core.Exprs))
-  desugar_values s (One e) = elim (array_passed s e) as (λ _. ℕ → Made (Option core.Exprs)) [
-    | Some array ↦ made None
-    | None ↦ do
-      x ← desugar s false e
-      made (Some (core.One x))
-  ]
-  desugar_values s (More e es) = elim (array_passed s e) as (λ _. ℕ → Made (Option core.Exprs)) [
-    | Some array ↦ desugar_values s es
-    | None ↦ do
-      x ← desugar s false e
-      xs ← desugar_values s es
-      made (Some (and_others x xs))
-  ]
+  desugar_values s (One e) = unless_passed (array_passed s e) (λ n. desugar s false e n) (made None)
+  desugar_values s (More e es) = unless_passed (array_passed s e) (λ n. desugar s false e n) (desugar_values s es)
 
   pub desugar_first : Setting → Exprs → (ℕ → Made core.Expr)
   desugar_first s (One e) = atom s [] e (desugar s false e)

@@ -19,20 +19,20 @@ abbrev pub Words : Type 0
 Words = List (Word Name)
 
 -- a word of the core
-abbrev pub a : CoreWord Name → Word Name
-a w = word.Core w
+abbrev pub of_core : CoreWord Name → Word Name
+of_core w = word.Core w
 
 abbrev pub target_word : Target → Word Name
-target_word (Bind x) = a (core_word.Bind x.at x.name)
-target_word Drop = a core_word.Drop
+target_word (Bind x) = of_core (core_word.Bind x.at x.name)
+target_word Drop = of_core core_word.Drop
 
 -- a name of a loop before its first value
 abbrev pub start_words : List NameAt → Words
 start_words [] = []
-start_words (x ∷ xs) = a (core_word.Start x.at x.name) ∷ []
+start_words (x ∷ xs) = of_core (core_word.Start x.at x.name) ∷ []
 
 abbrev pub bound_word : Count → Word Name
-bound_word (Written at n) = a (core_word.Bound at n)
+bound_word (Written at n) = of_core (core_word.Bound at n)
 bound_word (Constant at x) = word.ConstantBound at x
 
 abbrev pub bound_words : Option Count → Words
@@ -40,56 +40,56 @@ bound_words None = []
 bound_words (Some k) = bound_word k ∷ []
 
 abbrev pub end_loop : ℕ → Count → Word Name
-end_loop at (Written bound_at n) = a (core_word.EndLoop at n)
+end_loop at (Written bound_at n) = of_core (core_word.EndLoop at n)
 end_loop at (Constant bound_at x) = word.EndConstantLoop at x
 
 abbrev mutual
   pub words : Expr → Words
-  words (Number at n) = a (core_word.Number at n) ∷ []
-  words (Named at x) = a (core_word.Name at x) ∷ []
-  words (Bracket e) = words e ++ a core_word.Bracket ∷ []
-  words (Prefix at op e) = words e ++ a (core_word.Prefix at op) ∷ []
-  words (Infix at s l r) = words l ++ a core_word.Left ∷ words r ++ a (core_word.Infix at s) ∷ []
+  words (Number at n) = of_core (core_word.Number at n) ∷ []
+  words (Named at x) = of_core (core_word.Name at x) ∷ []
+  words (Bracket e) = words e ++ of_core core_word.Bracket ∷ []
+  words (Prefix at op e) = words e ++ of_core (core_word.Prefix at op) ∷ []
+  words (Infix at s l r) = words l ++ of_core core_word.Left ∷ words r ++ of_core (core_word.Infix at s) ∷ []
   words (And at l r) = words l ++ word.AndThen ∷ words r ++ word.EndAnd at ∷ []
   words (Or at l r) = words l ++ word.OrElse ∷ words r ++ word.EndOr at ∷ []
   words (Not at e) = words e ++ word.Not at ∷ []
-  words (Fetch at x es) = a (core_word.Cell at x) ∷ index_words es ++ a (core_word.Fetch at x) ∷ []
-  words (Store at x es d) = a (core_word.Cell at x) ∷ index_words es ++ a core_word.Index ∷ words d ++ a (core_word.Store at x) ∷ []
-  words (Call at strict f es) = a (core_word.Callee at f) ∷ a core_word.List ∷ part_words es ++ a (core_word.Call at strict f) ∷ []
-  words (If at p l r) = words p ++ a core_word.Then ∷ body_words l ++ a core_word.Else ∷ body_words r ++ a (core_word.EndIf at) ∷ []
-  words (Loop at bound firsts turn) = a (core_word.Loop at) ∷ bound_word bound ∷ first_words (names_of turn) firsts ++ turn_words turn
+  words (Fetch at x es) = of_core (core_word.Cell at x) ∷ index_words es ++ of_core (core_word.Fetch at x) ∷ []
+  words (Store at x es d) = of_core (core_word.Cell at x) ∷ index_words es ++ of_core core_word.Index ∷ words d ++ of_core (core_word.Store at x) ∷ []
+  words (Call at strict f es) = of_core (core_word.Callee at f) ∷ of_core core_word.List ∷ part_words es ++ of_core (core_word.Call at strict f) ∷ []
+  words (If at p l r) = words p ++ of_core core_word.Then ∷ body_words l ++ of_core core_word.Else ∷ body_words r ++ of_core (core_word.EndIf at) ∷ []
+  words (Loop at bound firsts turn) = of_core (core_word.Loop at) ∷ bound_word bound ∷ first_words (names_of turn) firsts ++ turn_words turn
       ++ end_loop at bound ∷ []
   words (For at bound i first end carried body) = word.For at ∷ bound_words bound ++ word.Counter i.at i.name ∷ words first ++ word.Range ∷ words end ++
       word.EndRange ∷ carried_words carried ++ word.Turns ∷ body_words body ++ word.EndFor at ∷ []
 
   -- the words of a list follow the word `List`
   pub part_words : Exprs → Words
-  part_words (One e) = words e ++ a core_word.Part ∷ []
-  part_words (More e es) = words e ++ a core_word.Part ∷ part_words es
+  part_words (One e) = words e ++ of_core core_word.Part ∷ []
+  part_words (More e es) = words e ++ of_core core_word.Part ∷ part_words es
 
   pub index_words : Exprs → Words
   index_words (One e) = words e
   index_words (More e es) = words e ++ word.NextIndex ∷ index_words es
 
   pub first_words : List NameAt → Exprs → Words
-  first_words xs (One e) = start_words xs ++ words e ++ a core_word.First ∷ []
-  first_words xs (More e es) = start_words xs ++ words e ++ a core_word.First ∷ first_words (others xs) es
+  first_words xs (One e) = start_words xs ++ words e ++ of_core core_word.First ∷ []
+  first_words xs (More e es) = start_words xs ++ words e ++ of_core core_word.First ∷ first_words (others xs) es
 
   pub body_words : Body → Words
-  body_words (Let at targets es rest) = a (core_word.Let at) ∷ map target_word targets ++ a core_word.List ∷ part_words es ++ a (core_word.EndLet at) ∷
+  body_words (Let at targets es rest) = of_core (core_word.Let at) ∷ map target_word targets ++ of_core core_word.List ∷ part_words es ++ of_core (core_word.EndLet at) ∷
       body_words rest
-  body_words (Do es rest) = a core_word.List ∷ part_words es ++ a core_word.Do ∷ body_words rest
-  body_words (When tests rest) = a core_word.List ∷ tests_words tests ++ word.When ∷ body_words rest
-  body_words (Give es) = a core_word.List ∷ part_words es ++ a core_word.Give ∷ []
-  body_words (Chain e) = words e ++ a core_word.Chain ∷ []
+  body_words (Do es rest) = of_core core_word.List ∷ part_words es ++ of_core core_word.Do ∷ body_words rest
+  body_words (When tests rest) = of_core core_word.List ∷ tests_words tests ++ word.When ∷ body_words rest
+  body_words (Give es) = of_core core_word.List ∷ part_words es ++ of_core core_word.Give ∷ []
+  body_words (Chain e) = words e ++ of_core core_word.Chain ∷ []
 
   pub tests_words : Tests → Words
-  tests_words (Last at p arm) = words p ++ a core_word.Then ∷ body_words arm ++ word.EndWhen at ∷ []
-  tests_words (Else at p arm more) = words p ++ a core_word.Then ∷ body_words arm ++ a core_word.Else ∷ tests_words more ++ word.EndWhen at ∷ []
+  tests_words (Last at p arm) = words p ++ of_core core_word.Then ∷ body_words arm ++ word.EndWhen at ∷ []
+  tests_words (Else at p arm more) = words p ++ of_core core_word.Then ∷ body_words arm ++ of_core core_word.Else ∷ tests_words more ++ word.EndWhen at ∷ []
 
   pub turn_words : Turn → Words
-  turn_words (Before xs p body) = a core_word.TestFirst ∷ words p ++ a core_word.While ∷ body_words body
-  turn_words (After xs body p) = a core_word.BodyFirst ∷ body_words body ++ a core_word.Until ∷ words p
+  turn_words (Before xs p body) = of_core core_word.TestFirst ∷ words p ++ of_core core_word.While ∷ body_words body
+  turn_words (After xs body p) = of_core core_word.BodyFirst ∷ body_words body ++ of_core core_word.Until ∷ words p
 
   pub carried_words : Carried → Words
   carried_words Nothing = []
@@ -97,21 +97,21 @@ abbrev mutual
 
 abbrev pub result_words : Option Count → Words
 result_words None = []
-result_words (Some (Written at n)) = a (core_word.Results at n) ∷ []
+result_words (Some (Written at n)) = of_core (core_word.Results at n) ∷ []
 result_words (Some (Constant at x)) = word.ConstantResults at x ∷ []
 
 abbrev pub ranked_word : NameAt → ℕ → Word Name
-ranked_word x zero = a (core_word.Parameter x.at x.name)
+ranked_word x zero = of_core (core_word.Parameter x.at x.name)
 ranked_word x (suc n) = word.ArrayParameter x.at x.name (suc n)
 
 abbrev pub param_word : Param → Word Name
 param_word p = ranked_word p.name p.rank
 
 abbrev pub item_words : Item → Words
-item_words (Cells x es) = a (core_word.Array x.at x.name) ∷ a core_word.List ∷ part_words es ++ word.EndArray ∷ []
+item_words (Cells x es) = of_core (core_word.Array x.at x.name) ∷ of_core core_word.List ∷ part_words es ++ word.EndArray ∷ []
 item_words (Const x e) = word.Constant x.at x.name ∷ words e ++ word.EndConstant ∷ []
-item_words (Defines f) = a (core_word.Function f.name.at f.name.name) ∷ map param_word f.params ++ result_words f.results
-    ++ a (core_word.Body f.body_at) ∷ body_words f.body ++ a core_word.EndFunction ∷ []
+item_words (Defines f) = of_core (core_word.Function f.name.at f.name.name) ∷ map param_word f.params ++ result_words f.results
+    ++ of_core (core_word.Body f.body_at) ∷ body_words f.body ++ of_core core_word.EndFunction ∷ []
 
 abbrev pub program_words : Program → Words
 program_words items = flat_map item_words items

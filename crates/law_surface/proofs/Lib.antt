@@ -1,0 +1,14 @@
+mod EmbeddedFits
+mod EmbeddedTokens
+mod EmbeddedUses
+mod EmbeddedRules
+mod EmbeddedHeads
+mod EmbeddedChecked
+mod EmbeddedWanted
+mod EmbeddedDesugared
+mod CoreIsSurface
+mod Steps
+mod FitMade
+mod DesugaredFits
+mod ConstantsSmall
+mod DesugaredProgramFits

@@ -1,0 +1,2 @@
+pub mod CoreIsSurface
+pub mod GoodGivesGood

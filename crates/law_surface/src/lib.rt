@@ -1,0 +1,25 @@
+//! Derived forms and the core: what a good program of one is in the other.
+//!
+//! **The statements.** `core_is_surface` (`specs/CoreIsSurface`): each good program of the core is a good program with derived forms, which has the
+//! same tokens and is short for itself. `desugared_programs_fit` (`specs/GoodGivesGood`): what a good program with derived forms is short for fits the
+//! grammar of the core.
+//!
+//! **Why they hold.** By induction on the tree. A program of the core has in each of its parts no `let` to hold and no hidden name to give
+//! (`EmbeddedDesugared`); what is known of its items are those of the core (`EmbeddedHeads`), so the rules say the same (`EmbeddedRules`). What is made
+//! of a part fits where the parts do (`FitMade`), since brackets are put where the grammar wants them; and its level is as high as an operator around
+//! it asks (`DesugaredFits`). Constants, lengths and bounds are small, as the rules have checked (`ConstantsSmall`).
+#![tactic(auto)]
+
+ghost use Rattle.law_surface.specs.CoreIsSurface.{CoreIsSurface};
+ghost use Rattle.law_surface.specs.GoodGivesGood.{DesugaredFits};
+
+/// A good program of the core is a good program with derived forms: it has the same tokens, is as deep, keeps the rules, and is
+/// short for itself, with its places.
+pub fn core_is_surface()
+    ensures law { CoreIsSurface }
+{}
+
+/// What a good program with derived forms is short for fits the grammar of the core.
+pub fn desugared_programs_fit()
+    ensures law { DesugaredFits }
+{}
