@@ -12,3 +12,4 @@ mod FitMade
 mod DesugaredFits
 mod ConstantsSmall
 mod DesugaredProgramFits
+mod PlacedApart

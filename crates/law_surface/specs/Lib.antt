@@ -1,2 +1,3 @@
 pub mod CoreIsSurface
 pub mod GoodGivesGood
+pub mod PlacedApart

@@ -2,16 +2,18 @@
 //!
 //! **The statements.** `core_is_surface` (`specs/CoreIsSurface`): each good program of the core is a good program with derived forms, which has the
 //! same tokens and is short for itself. `desugared_programs_fit` (`specs/GoodGivesGood`): what a good program with derived forms is short for fits the
-//! grammar of the core.
+//! grammar of the core. `placed_programs_are_apart` (`specs/PlacedApart`): in a program with places of its own no two tokens have one place.
 //!
 //! **Why they hold.** By induction on the tree. A program of the core has in each of its parts no `let` to hold and no hidden name to give
 //! (`EmbeddedDesugared`); what is known of its items are those of the core (`EmbeddedHeads`), so the rules say the same (`EmbeddedRules`). What is made
 //! of a part fits where the parts do (`FitMade`), since brackets are put where the grammar wants them; and its level is as high as an operator around
-//! it asks (`DesugaredFits`). Constants, lengths and bounds are small, as the rules have checked (`ConstantsSmall`).
+//! it asks (`DesugaredFits`). Constants, lengths and bounds are small, as the rules have checked (`ConstantsSmall`). The places of a part are numbers of
+//! its words, each the place of one token at most (`PlacedApart`).
 #![tactic(auto)]
 
 ghost use Rattle.law_surface.specs.CoreIsSurface.{CoreIsSurface};
 ghost use Rattle.law_surface.specs.GoodGivesGood.{DesugaredFits};
+ghost use Rattle.law_surface.specs.PlacedApart.{PlacedApart};
 
 /// A good program of the core is a good program with derived forms: it has the same tokens, is as deep, keeps the rules, and is
 /// short for itself, with its places.
@@ -22,4 +24,9 @@ pub fn core_is_surface()
 /// What a good program with derived forms is short for fits the grammar of the core.
 pub fn desugared_programs_fit()
     ensures law { DesugaredFits }
+{}
+
+/// In a placed program no two tokens have one place.
+pub fn placed_programs_are_apart()
+    ensures law { PlacedApart }
 {}

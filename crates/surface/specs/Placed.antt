@@ -5,8 +5,9 @@ use Rattle.std.specs.Prelude.{ℕ, ◌+◌, List, [], ◌∷◌, map, length, sl
 use Rattle.source.specs.declared.word.Word.{Word}
 use Rattle.source.specs.declared.word.Word.TheVariants as word
 use Rattle.source.specs.Tree.{Name, NameAt, NumberAt, Target, Bind, Drop, Expr, Number, Named, Bracket, Prefix, Infix, Fetch, Store, Call, If, Loop}
-use Rattle.source.specs.Tree.{Exprs, One, More, Body, Let, Do, Give, Chain, Turn, Before, After, Item, Cells, Defines, Program}
-use Rattle.source.specs.Words.{words, part_words, first_words, body_words, result_words, item_words, program_words}
+use Rattle.source.specs.Tree.{Exprs, One, More, Body, Let, Do, Give, Chain, Turn, Before, After, Item, Cells, Defines, Program, names_of}
+use Rattle.source.specs.Spelled.{others}
+use Rattle.source.specs.Words.{words, start_words, part_words, first_words, body_words, result_words, item_words, program_words}
 
 abbrev pub size : Expr → ℕ
 size e = length (words e)
@@ -45,7 +46,7 @@ abbrev mutual
   placed_expr n (Call at strict f es) = Call n strict f (placed_parts (n + 2) es)
   placed_expr n (If at p l r) = If (n + size p + length (body_words l) + length (body_words r) + 2) (placed_expr n p) (placed_body (n + size p + 1) l)
       (placed_body (n + size p + length (body_words l) + 2) r)
-  placed_expr n (Loop at bound firsts turn) = Loop n (number_from (n + 1) bound) (placed_firsts (n + 2) firsts)
+  placed_expr n (Loop at bound firsts turn) = Loop n (number_from (n + 1) bound) (placed_firsts (n + 2) (names_of turn) firsts)
       (placed_turn (n + 2) firsts turn)
 
   pub placed_parts : ℕ → Exprs → Exprs
@@ -53,9 +54,9 @@ abbrev mutual
   placed_parts n (More e es) = More (placed_expr n e) (placed_parts (n + size e + 1) es)
 
   -- each after its name
-  pub placed_firsts : ℕ → Exprs → Exprs
-  placed_firsts n (One e) = One (placed_expr (n + 1) e)
-  placed_firsts n (More e es) = More (placed_expr (n + 1) e) (placed_firsts (n + size e + 2) es)
+  pub placed_firsts : ℕ → List NameAt → Exprs → Exprs
+  placed_firsts n xs (One e) = One (placed_expr (n + length (start_words xs)) e)
+  placed_firsts n xs (More e es) = More (placed_expr (n + length (start_words xs)) e) (placed_firsts (n + length (start_words xs) + size e + 1) (others xs) es)
 
   pub placed_body : ℕ → Body → Body
   placed_body n (Let at targets es rest) = Let n (targets_from (n + 1) targets) (placed_parts (n + length targets + 2) es)
