@@ -373,16 +373,13 @@ fn write_made<A: Allocator, W: Write>(
 {
     let waves = &profile.waves;
     match format {
-        ProfileFormat::Lines => {
-            let graph = waves.checked.graph();
-            write_profile(
-                writer,
-                graph,
-                &waves.report,
-                &profile.rows,
-                profile.sufficient,
-            )
-        }
+        ProfileFormat::Lines => write_profile(
+            writer,
+            waves.checked.graph(),
+            &waves.report,
+            &profile.rows,
+            profile.sufficient,
+        ),
         ProfileFormat::Picture => write_svg(writer, &waves.report.counts),
     }
 }

@@ -50,5 +50,5 @@ returns-in-Ok-sufficient_beside g c =
     c.in-Ok-waves_text.ensures.reported)
     (subst (λ (zs : List ℤ). c.args.format ≡ ProfileFormat.Lines → AreRows text zs o (sizes_below c.args.sizes 64) rows) c.deref-2.ensures.value
     (c.in-Ok-rows_beside.ensures text c.in-Ok-waves_text.ensures.good))
-    (subst (λ (zs : List ℤ). c.args.format ≡ ProfileFormat.Lines → IsSufficient w.checked zs o.steps enough) c.deref-2.ensures.value
+    (subst (λ (zs : List ℤ). c.args.format ≡ ProfileFormat.Lines → IsSufficient w.checked zs o.steps enough) c.deref-3.ensures.value
     c.in-Ok-sufficient_beside.ensures)
