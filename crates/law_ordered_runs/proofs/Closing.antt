@@ -1,27 +1,26 @@
 -- WHAT IS CLOSED: a part of which each activity has happened whose tokens have come, however the run goes on.
-use Rattle.std.proofs.Common.{◌≡◌, ℕ, zero, suc, ◌+◌, ◌<◌, ◌≤◌, ◌⊎◌, ℤ, Bool, true, false, List, [], ◌∷◌, length, Option, Some, None, Contains, inl, inr, refl, sym, ap}
-use Rattle.std.proofs.Common.{ap₂, ◌∙◌, subst, subst₂, arith, ⊎_elim, lt-ltb, le-ltb, ltb-true, if◌then◌else◌, ◌==◌}
+use Rattle.std.proofs.Common.{◌≡◌, ℕ, ◌+◌, ◌<◌, ◌≤◌, ◌⊎◌, ℤ, Bool, true, false, List, [], ◌∷◌, length, Option, Some, None, Contains, inl, inr, refl, sym, ap}
+use Rattle.std.proofs.Common.{ap₂, ◌∙◌, subst, arith, ⊎_elim, le-ltb, ltb-true, if◌then◌else◌, ◌==◌}
 use Rattle.std.specs.Prelude.{⊤, slice_get, nat_lt}
-use Rattle.std.proofs.lemmas.Option.{same_Some, slice_get_within}
+use Rattle.std.proofs.lemmas.Option.{same_Some}
 use Rattle.tags.specs.declared.value.Value.{Value}
-use Rattle.operators.specs.Values.{truth}
 use Rattle.semantics.specs.declared.graph.Region.{Region}
 use Rattle.semantics.specs.declared.graph.Region.TheVariants.{Arm}
 use Rattle.semantics.specs.declared.graph.Source.{Source}
 use Rattle.semantics.specs.declared.graph.Kind.{Kind}
-use Rattle.semantics.specs.declared.graph.Kind.TheVariants.{Lit, Apply1, Apply2, Cond, Enter, Merge, Fetch, Store, Call, StrictCall, Loop}
+use Rattle.semantics.specs.declared.graph.Kind.TheVariants.{Enter, Merge, Call, Loop}
 use Rattle.semantics.specs.Graph.{Graph, Node, Block, Flow, flow_of, node_at, node_count}
 use Rattle.semantics.specs.WellFormed.{WellFormed}
-use Rattle.semantics.specs.Meaning.{Context, Main, Called, Turned, AtNode, AtOut, AtTurn, Operand, Flag, Carried, tagged, Activity, Fires, Gates, Passes, Returns, Turns}
-use Rattle.semantics.specs.Meaning.{Outputs, taken, Deed, deed, fired, fired_in, input_passed, passed, gated, on_node, on_block, block_of, node_of, node_in, IsCall, IsLoop}
-use Rattle.lemmas.proofs.Permutations.{Within, Each, put_first, put_later}
+use Rattle.semantics.specs.Meaning.{Context, Main, Called, Turned, AtNode, Operand, tagged, Activity, Fires, Gates, Passes, Returns, Turns}
+use Rattle.semantics.specs.Meaning.{Outputs, Deed, deed, fired, fired_in, input_passed, passed, gated, on_node, on_block, block_of, node_of, node_in, IsCall, IsLoop}
+use Rattle.lemmas.proofs.Permutations.{put_first}
 use Rattle.law_confluence.specs.Outcome.{AreInputsOf}
 use Rattle.law_confluence.proofs.EquationsGraphForms.{line_past, line_below}
 use Rattle.law_loops_complete.specs.Within.{place_of, IsIn}
-use Rattle.law_ordered_runs.proofs.Extending.{Going, Came, On, on_then}
-use Rattle.law_ordered_runs.proofs.Order.{half, seat, Under, under_more, under_split, under_at, in_self, in_trans, in_under}
-use Rattle.law_ordered_runs.proofs.Origins.{DueIn, Comes, place_due, fired_once, happened_at, operand_source, result_source, lawful}
-use Rattle.law_ordered_runs.proofs.Lines.{deed_gates, deed_passes, deed_fires}
+use Rattle.law_ordered_runs.proofs.Extending.{Going, On, on_then}
+use Rattle.law_ordered_runs.proofs.Order.{half, seat, Under, under_more, under_split, under_at, in_under}
+use Rattle.law_ordered_runs.proofs.Origins.{DueIn, Comes, place_due, fired_once, happened_at, operand_source}
+use Rattle.law_ordered_runs.proofs.Lines.{deed_gates, deed_passes}
 
 -- an activity at a node itself
 pub data AtLine (c : Context) (n : ℕ) (a : Activity) : Type 0 where

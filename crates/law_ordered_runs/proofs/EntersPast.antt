@@ -1,5 +1,5 @@
 -- THE ENTERS OF A PART are of conditionals of that part: none comes before it.
-use Rattle.std.proofs.Common.{◌≡◌, ℕ, ◌+◌, ◌≤◌, Bool, true, false, List, [], ◌∷◌, ◌++◌, map, length, refl, sym, ap, ◌∙◌, arith}
+use Rattle.std.proofs.Common.{◌≡◌, ℕ, ◌+◌, ◌≤◌, Bool, true, false, List, [], ◌∷◌, ◌++◌, map, refl, sym, ap, ◌∙◌, arith}
 use Rattle.operators.specs.declared.Unary.{Unary}
 use Rattle.operators.specs.declared.Unary.TheVariants.{Neg, Not}
 use Rattle.semantics.specs.declared.graph.Region.{Region}
@@ -10,7 +10,7 @@ use Rattle.lemmas.proofs.Permutations.{Each, each_append}
 use Rattle.source.specs.Tree.{Name, Expr, Number, Named, Bracket, Prefix, Infix, Fetch, Store, Call, If, Loop, Exprs, One, More, Body, Let, Do, Give, Chain}
 use Rattle.source.specs.Tree.{Program}
 use Rattle.source.specs.Outside.{outside_body}
-use Rattle.source.specs.Lowered.{Made, made, Lowered, Site, Spot, Scope, spot_after, next_spot, first_of, prefixed, or_predicate, source_in, enters, entered_names}
+use Rattle.source.specs.Lowered.{Made, made, Lowered, Site, Spot, Scope, spot_after, next_spot, first_of, prefixed, or_predicate, source_in, entered_names}
 use Rattle.source.specs.Lowered.{arm_site, arm_scope, arm, merges, chosen, let_scoped, lower, lower_list, lower_body, call_kind}
 
 module _ (p : Program) (lo : ℕ) where

@@ -1,6 +1,5 @@
 -- A program that reads each cell behind its store: what it needs is counted in its own evaluation, and one of its runs keeps each loop within its bound.
-use Rattle.std.proofs.Common.{◌≡◌, ℕ, ◌+◌, ◌<◌, ◌≤◌, ℤ, List, length, Option, Some, None, refl, sym, ap, ◌∙◌, subst}
-use Rattle.tags.specs.declared.value.Origin.{Origin}
+use Rattle.std.proofs.Common.{◌≡◌, ℕ, ◌+◌, ◌≤◌, ℤ, List, length, Option, Some, None, refl, sym, ap, ◌∙◌, subst}
 use Rattle.semantics.specs.declared.graph.Kind.{Kind}
 use Rattle.semantics.specs.declared.graph.Kind.TheVariants.{Lit, Apply1, Apply2, Cond, Enter, Merge, Fetch, Store, Call, StrictCall, Loop}
 use Rattle.std.specs.Prelude.{slice_get}
@@ -11,18 +10,15 @@ use Rattle.semantics.specs.WellFormed.{WellFormed, NamesWell, IsBlockWell}
 use Rattle.law_confluence.proofs.OutcomeResolved.{block_in, node_back}
 use Rattle.semantics.specs.Meaning as Meaning
 use Rattle.semantics.specs.Meaning.{Context, block_number, block_numbered, node_of, node_in}
-use Rattle.source.specs.Tree.{Program}
-use Rattle.source.specs.Theorem.{Computes, RestsWell}
-use Rattle.law_confluence.specs.Outcome.{AreInputsOf}
+use Rattle.source.specs.Theorem.{Computes}
 use Rattle.law_completion.specs.Total.{CallsForAtMost}
 use Rattle.law_completion.specs.TotalProgram.{count_of}
 use Rattle.law_completion.proofs.Graphs.{total_graph}
-use Rattle.law_loops_complete.specs.Within.{HasBound, SomeKeepsWithin}
+use Rattle.law_loops_complete.specs.Within.{HasBound}
 use Rattle.law_loops_complete.proofs.Within.{within_completes}
 use Rattle.law_program_counts.specs.ProgramCounts.{TextsCallForCounted}
-use Rattle.law_language.specs.MeansTheorem.{IsLoweredText}
 use Rattle.law_ordered_runs.specs.InOrder.{RunsInOrder}
-use Rattle.law_ordered_runs.specs.InOrderCompletes.{EvaluatesInOrder, ComesToRest, ProgramsComeToRest, ProgramsInOrderComplete, ProgramsInOrderCompleteWithin}
+use Rattle.law_ordered_runs.specs.InOrderCompletes.{ProgramsComeToRest, ProgramsInOrderComplete, ProgramsInOrderCompleteWithin}
 use Rattle.law_ordered_runs.proofs.Ordered.{one_after_another_keeps}
 use Rattle.law_ordered_runs.proofs.ReachingMain.{programs_run_in_order}
 

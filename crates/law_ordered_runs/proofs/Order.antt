@@ -1,10 +1,10 @@
 -- WHERE AN ACTIVITY BELONGS: to nodes of an invocation, or to an iteration; and which may come before which.
 use Rattle.std.proofs.Common.{◌≡◌, ℕ, zero, suc, ◌+◌, ◌<◌, ◌≤◌, ◌⊎◌, Bool, true, false, List, [], ◌∷◌, ◌++◌, Some, Contains, inl, inr, refl, sym, ap, ◌∙◌, subst, arith}
-use Rattle.std.proofs.Common.{⊎_elim, le-ltb, ltb-true, ltb-false}
+use Rattle.std.proofs.Common.{⊎_elim, ltb-true, ltb-false}
 use Rattle.std.specs.Prelude.{slice_get, nat_lt}
 use Rattle.std.proofs.lemmas.Option.{same_Some}
 use Rattle.semantics.specs.Meaning.{Context, Main, Called, Turned, Activity, Fires, Gates, Passes, Returns, Turns, Outputs}
-use Rattle.lemmas.proofs.Permutations.{Within, Each, Spread, each_from, each_within, spread_append, within_to, get_within}
+use Rattle.lemmas.proofs.Permutations.{Each, Spread, each_from, each_within, spread_append, within_to, get_within}
 use Rattle.law_confluence.specs.EquationsContexts.{depth}
 use Rattle.law_loops_complete.specs.Within.{place_of, IsIn}
 use Rattle.law_ordered_runs.specs.InOrder.{OneAfterAnother}

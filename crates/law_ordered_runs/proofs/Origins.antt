@@ -1,19 +1,17 @@
 -- WHERE THE TOKENS OF A RUN COME FROM, and that an activity has happened where a token at one of its places was taken.
-use Rattle.std.proofs.Common.{◌≡◌, ℕ, zero, suc, ◌+◌, ◌<◌, ◌≤◌, ◌⊎◌, ℤ, Bool, List, [], ◌∷◌, ◌++◌, length, flat_map, Some, Contains, inl, inr, refl, sym, ap, ◌∙◌}
-use Rattle.std.proofs.Common.{subst, subst₂, arith, ⊎_elim}
+use Rattle.std.proofs.Common.{◌≡◌, ℕ, ◌+◌, ◌<◌, ◌⊎◌, ℤ, List, [], ◌∷◌, ◌++◌, length, flat_map, Some, Contains, refl, sym, ap, ◌∙◌}
+use Rattle.std.proofs.Common.{subst, arith, ⊎_elim}
 use Rattle.std.specs.Prelude.{slice_get}
 use Rattle.std.proofs.lemmas.Option.{same_Some}
 use Rattle.std.proofs.lemmas.List.Sorted.{IsPermutation-sym, IsPermutation-append_left}
 use Rattle.tags.specs.declared.value.Value.{Value}
-use Rattle.operators.specs.Values.{truth}
-use Rattle.semantics.specs.declared.graph.Region.{Region}
 use Rattle.semantics.specs.declared.graph.Source.{Source}
 use Rattle.semantics.specs.Graph.{Graph, Node, Block, Flow, flow_of, node_at}
 use Rattle.semantics.specs.WellFormed.{WellFormed}
-use Rattle.semantics.specs.Meaning.{Context, AtNode, AtOut, AtTurn, Operand, Predicate, Flag, Tagged, tagged, Activity, Fires, Gates, Passes, Returns, Turns, Outputs}
+use Rattle.semantics.specs.Meaning.{Context, AtNode, AtOut, Operand, Tagged, tagged, Activity, Fires, Gates, Passes, Returns, Turns, Outputs}
 use Rattle.semantics.specs.Meaning.{taken, Deed, Message, Sends, Steers, Enters, Nothing, deed, block_of, start}
-use Rattle.lemmas.proofs.Permutations.{Within, Each, each_within, within_from, within_to, within_left, within_flat_map, within_permutation, put_first}
-use Rattle.lemmas.proofs.Contains.{contains_get, get_contains}
+use Rattle.lemmas.proofs.Permutations.{Within, Each, each_within, within_from, within_left, within_flat_map, within_permutation, put_first}
+use Rattle.lemmas.proofs.Contains.{contains_get}
 use Rattle.law_confluence.specs.Outcome.{AreInputsOf, SameTag}
 use Rattle.law_confluence.specs.Equations.{IsDue}
 use Rattle.law_confluence.proofs.ActivityRows.{region_node}

@@ -10,7 +10,7 @@ use Rattle.semantics.specs.declared.graph.Region.TheVariants.{Arm}
 use Rattle.semantics.specs.declared.graph.Source.{Source}
 use Rattle.semantics.specs.declared.graph.Kind.TheVariants as node
 use Rattle.semantics.specs.Graph.{Block, node_at, node_count}
-use Rattle.semantics.specs.Meaning.{Context, AtNode, Operand, tagged, Activity, Fires, Gates, Passes, Deed, Says, Sends, Steers, Nothing, Stood, ArmsTaken, arm_of}
+use Rattle.semantics.specs.Meaning.{Context, Activity, Fires, Gates, Passes, Deed, Says, Sends, Steers, Nothing, Stood, ArmsTaken, arm_of}
 use Rattle.semantics.specs.Meaning as Meaning
 use Rattle.semantics.specs.Meaning.{arms_round, block_of, same_side, deed, start}
 use Rattle.law_confluence.proofs.EquationsValuesSides.{one_more}

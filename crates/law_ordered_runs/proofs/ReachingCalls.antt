@@ -11,7 +11,7 @@ use Rattle.semantics.specs.declared.graph.Kind.TheVariants as node
 use Rattle.semantics.specs.Graph.{Node, Block, node_at, node_count, place_of, block_names}
 use Rattle.semantics.specs.Meaning as Meaning
 use Rattle.semantics.specs.Meaning.{Context, Called, AtNode, AtOut, Operand, tagged, Activity, Fires, Passes, Returns, Deed, Says, Sends, Enters, Stood, IsCall, IsLoop, StartsWhenStrict}
-use Rattle.semantics.specs.Meaning.{ArmsTaken, arm_of, arms_round, arms_at, callee, callee_of, callee_in, block_number, block_numbered, block_of, node_in, node_of, passed, fired, start}
+use Rattle.semantics.specs.Meaning.{ArmsTaken, arm_of, arms_round, arms_at, callee, callee_of, callee_in, block_number, block_numbered, block_of, node_in, passed, start}
 use Rattle.law_confluence.specs.Equations.{IsDue}
 use Rattle.law_confluence.proofs.EquationsGraphFormed.{shaped}
 use Rattle.law_confluence.proofs.EquationsRunUses.{entering_within}
@@ -42,14 +42,14 @@ use Rattle.law_ordered_runs.proofs.Order.{seat, Under, Precedes, in_self, under_
 use Rattle.law_ordered_runs.proofs.Origins.{Comes, result_source, happened_at}
 use Rattle.law_ordered_runs.proofs.Closing.{AsReturns, AsTurns, AsOutputs, ClosesLine, ClosesEnd, closes_on, closes_line_on, closes_node, closes_input, closes_whole, not_turned}
 use Rattle.law_ordered_runs.proofs.Closing.{line_passed, line_fired}
-use Rattle.law_ordered_runs.proofs.Doing.{AtNodeOf, precedes_at, precedes_behind, under_within, own_called, Does, adds_none, adds_one, adds_then, does_none, does_then, does_to}
+use Rattle.law_ordered_runs.proofs.Doing.{AtNodeOf, precedes_at, precedes_behind, under_within, own_called, adds_none, adds_one, adds_then, does_none, does_then, does_to}
 use Rattle.law_ordered_runs.proofs.Extending.{Extended, Came, on_then, on_same, said_came, said_gives, said_memory}
 use Rattle.law_ordered_runs.proofs.Lines.{line_happens, operand_happens, input_happens, result_happens}
-use Rattle.law_ordered_runs.proofs.Memory.{Changed, list_fills, fills_none, ready_first, ready_then, changed_none, changed_same, changed_both}
+use Rattle.law_ordered_runs.proofs.Memory.{Changed, list_fills, fills_none, ready_first, ready_then, changed_none, changed_same}
 use Rattle.law_ordered_runs.proofs.Staying.{due_on, has_on, have_on, arms_on}
 use Rattle.law_ordered_runs.proofs.UsesSent.{result_came}
 use Rattle.law_ordered_runs.proofs.Reaching.{Land, RunOf, flow, world_of, cells_of, HasX, HaveX, ActiveX, ReadyX, OnX, Reaches, ExprReaches, ListReaches}
-use Rattle.law_ordered_runs.proofs.Reaching.{AddsX, DoesX, reaches_to, BodyReaches, there_already, first_in, rest_in}
+use Rattle.law_ordered_runs.proofs.Reaching.{AddsX, DoesX, reaches_to, BodyReaches, first_in, rest_in}
 use Rattle.law_ordered_runs.proofs.ReachingParts.{second_part}
 
 -- A RUN GOES ON WITH NO STORE.

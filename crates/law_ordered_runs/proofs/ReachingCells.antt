@@ -7,9 +7,9 @@ use Rattle.operators.specs.Values.{Indexed, Place, Outside, index_in}
 use Rattle.semantics.specs.declared.graph.Source.{Source}
 use Rattle.semantics.specs.declared.graph.Kind.TheVariants as node
 use Rattle.semantics.specs.Graph as graph
-use Rattle.semantics.specs.Graph.{Node, array_names, first_cell, array_len}
+use Rattle.semantics.specs.Graph.{array_names, first_cell, array_len}
 use Rattle.semantics.specs.Meaning as Meaning
-use Rattle.semantics.specs.Meaning.{Context, Memory, Says, Sends, Fires, fired, fetched, stored, origin_at}
+use Rattle.semantics.specs.Meaning.{Context, Memory, Says, Sends, Fires, fetched, stored}
 use Rattle.source.specs.declared.word.InfixSign.{InfixSign}
 use Rattle.source.specs.declared.word.InfixSign.TheVariants.{Direct, Greater, AtLeast}
 use Rattle.source.specs.Tree.{Name, Expr}
@@ -17,7 +17,7 @@ use Rattle.source.specs.Fits.{Fits}
 use Rattle.source.specs.Outside.{uses}
 use Rattle.source.specs.Rules.{values}
 use Rattle.source.specs.Evaluates as eval
-use Rattle.source.specs.Evaluates.{Env, Stores, Evaluates, infix_, operated, place_in, place_from, counted_from, answer, filled}
+use Rattle.source.specs.Evaluates.{Env, Stores, Evaluates, infix_, operated, place_in, counted_from, answer, filled}
 use Rattle.source.specs.Lowered.{Lowered, Site, Spot, Scope, made, joined, ended, operator_of, operands, lower, spot_after, ports_from}
 use Rattle.source.proofs.Kept.{in_infix, in_fetch, in_store}
 use Rattle.law_language.specs.MeansHolds.{resolved}

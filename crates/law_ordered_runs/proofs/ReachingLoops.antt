@@ -9,9 +9,8 @@ use Rattle.operators.specs.Values.{truth}
 use Rattle.semantics.specs.declared.graph.Source.{Source}
 use Rattle.semantics.specs.declared.graph.Kind.TheVariants as node
 use Rattle.semantics.specs.Graph.{Node, Block, node_at, node_count, place_of, block_names}
-use Rattle.semantics.specs.Meaning as Meaning
-use Rattle.semantics.specs.Meaning.{Context, Turned, AtNode, AtTurn, Operand, Flag, Carried, Tagged, tagged, Activity, Passes, Turns, Deed, Says, Sends, Enters, Stood, IsCall, IsLoop, HadTrueFlag, ArmsTaken, arm_of}
-use Rattle.semantics.specs.Meaning.{arms_round, arms_at, callee, callee_of, callee_in, block_number, block_numbered, block_of, node_in, node_of, passed, start}
+use Rattle.semantics.specs.Meaning.{Context, Turned, AtNode, AtTurn, Operand, Flag, Tagged, tagged, Activity, Passes, Turns, Deed, Says, Sends, Enters, Stood, IsCall, IsLoop, HadTrueFlag, ArmsTaken, arm_of}
+use Rattle.semantics.specs.Meaning.{arms_round, arms_at, callee, callee_of, callee_in, block_number, block_numbered, block_of, node_in, node_of, start}
 use Rattle.law_confluence.specs.Equations.{IsDue}
 use Rattle.law_confluence.proofs.EquationsGraphForms.{HasForm}
 use Rattle.law_confluence.proofs.EquationsGraphFormed.{shaped}
@@ -20,7 +19,7 @@ use Rattle.source.specs.Fits.{FitsTurn, count}
 use Rattle.source.specs.Outside.{without, bare, list_uses, uses, body_uses, turn_uses, outside_turn}
 use Rattle.source.specs.Rules.{turn_values}
 use Rattle.source.specs.Evaluates as eval
-use Rattle.source.specs.Evaluates.{Env, Stores, entered, Evaluates, EvaluatesAll, Runs}
+use Rattle.source.specs.Evaluates.{Env, Stores, entered, EvaluatesAll}
 use Rattle.source.specs.Lowered.{Made, MadeBlock, Lowered, Spot, Scope, made, source_in, scoped, turn_site, turn_scope, turn_block}
 use Rattle.source.specs.Lowered.{looped, loop_name, block_name, inputs_from, ports_from, port, spot_after, lower_list, lower_turn}
 use Rattle.source.proofs.Steps.{ok_as}
@@ -37,8 +36,6 @@ use Rattle.law_language.proofs.MeansInputs.{root_taken}
 use Rattle.law_language.proofs.MeansFirsts.{firsts_list, Apart, firsts_apart, scoped_sources, scoped_both, inputs_both}
 use Rattle.law_language.proofs.MeansTurnNames.{BoundTo, known_values, entered_values, agrees_behind}
 use Rattle.law_language.proofs.MeansParts.{own_line, block_is}
-use Rattle.law_language.proofs.MeansLeaves.{append_nothing}
-use Rattle.law_language.proofs.MeansPlaced.{get_left}
 use Rattle.lemmas.proofs.Permutations.{put_first}
 use Rattle.lemmas.proofs.SliceGet.{get_some}
 use Rattle.law_loops_complete.specs.Within as ordered
@@ -49,7 +46,7 @@ use Rattle.law_ordered_runs.proofs.Origins.{Comes, happened_at, lawful, one_toke
 use Rattle.law_ordered_runs.proofs.Closing.{AsReturns, AsTurns, AsOutputs, Closes, ClosesIn, ClosesEnd, closes_on, closes_in_on, closes_node, closes_whole, closes_never}
 use Rattle.law_ordered_runs.proofs.Closing.{not_called, line_passed}
 use Rattle.law_ordered_runs.proofs.Doing.{AtNodeOf, precedes_at, precedes_behind, under_within, own_turned, adds_none, adds_one, adds_then, adds_more, does_to}
-use Rattle.law_ordered_runs.proofs.Extending.{Extended, on_then, on_same, said_came, said_gives, said_memory}
+use Rattle.law_ordered_runs.proofs.Extending.{Extended, on_then, on_same, said_came, said_gives}
 use Rattle.law_ordered_runs.proofs.Lines.{iteration_happens}
 use Rattle.law_ordered_runs.proofs.Memory.{Changed, FillsStored, list_fills, fills_none, ready_first, ready_then, changed_none, changed_same, changed_both}
 use Rattle.law_ordered_runs.proofs.Staying.{due_on, has_on, have_on, agrees_on, arms_on}

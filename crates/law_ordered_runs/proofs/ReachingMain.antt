@@ -10,7 +10,7 @@ use Rattle.semantics.specs.declared.graph.Source.{Source}
 use Rattle.semantics.specs.Graph.{Graph, Block, Flow, flow_of, node_count, place_of, block_names}
 use Rattle.semantics.specs.WellFormed.{WellFormed}
 use Rattle.semantics.specs.Meaning as Meaning
-use Rattle.semantics.specs.Meaning.{Context, Main, Called, Turned, AtNode, AtOut, Operand, tagged, Tagged, State, Effect, Activity, Outputs, Puts, taken, deed, done, Run, Reached, Stood, block_of, start}
+use Rattle.semantics.specs.Meaning.{Context, Main, Called, Turned, AtOut, Operand, tagged, State, Effect, Activity, Outputs, Puts, taken, deed, done, Run, Stood, block_of, start}
 use Rattle.semantics.specs.Meaning.{with_output, adds}
 use Rattle.semantics.specs.Faithful.{inputs_in}
 use Rattle.lemmas.proofs.Contains.{contains_none, contains_cases}

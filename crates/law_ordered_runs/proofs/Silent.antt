@@ -1,7 +1,7 @@
 -- IN AN ARM THAT IS NOT TAKEN nothing happens but that its enters shut; and a merge takes the side that is chosen alone.
-use Rattle.std.proofs.Common.{◌≡◌, ℕ, zero, suc, ◌+◌, ◌<◌, ◌≤◌, ◌⊎◌, ℤ, Bool, true, false, List, [], ◌∷◌, ◌++◌, length, map, Option, Some, None, Contains, inl, inr, refl, sym}
-use Rattle.std.proofs.Common.{ap, ◌∙◌, subst, subst₂, arith, ⊎_elim, if◌then◌else◌}
-use Rattle.std.specs.Prelude.{⊤, slice_get}
+use Rattle.std.proofs.Common.{◌≡◌, ℕ, zero, suc, ◌+◌, ◌<◌, ℤ, Bool, true, false, List, [], ◌∷◌, length, Option, Some, None, Contains, refl, sym}
+use Rattle.std.proofs.Common.{ap, ◌∙◌, subst, arith, if◌then◌else◌}
+use Rattle.std.specs.Prelude.{slice_get}
 use Rattle.std.proofs.lemmas.Option.{same_Some}
 use Rattle.tags.specs.declared.value.Value.{Value}
 use Rattle.operators.specs.Values.{truth}
@@ -12,9 +12,9 @@ use Rattle.semantics.specs.declared.graph.Kind.{Kind}
 use Rattle.semantics.specs.declared.graph.Kind.TheVariants.{Lit, Apply1, Apply2, Cond, Enter, Merge, Fetch, Store, Call, StrictCall, Loop}
 use Rattle.semantics.specs.Graph.{Graph, Node, Block, Flow, flow_of, node_at, node_count, array_names, block_names, resolved_kind}
 use Rattle.semantics.specs.WellFormed.{WellFormed}
-use Rattle.semantics.specs.Meaning.{Context, Called, Turned, AtNode, Operand, Predicate, Tagged, tagged, Activity, Fires, Gates, Passes, Deed, Sends, taken, deed, fired}
-use Rattle.semantics.specs.Meaning.{passed, gated, block_of, block_number, block_numbered, node_of, ArmsTaken, arm_of, arms_round, arms_at, IsCall, IsLoop}
-use Rattle.lemmas.proofs.Permutations.{Within, Each, put_first, put_later}
+use Rattle.semantics.specs.Meaning.{Context, Called, Turned, AtNode, Operand, Tagged, tagged, Activity, Fires, Gates, Passes, Deed, Sends, taken, fired}
+use Rattle.semantics.specs.Meaning.{passed, gated, block_of, block_number, block_numbered, ArmsTaken, arm_of, arms_round, arms_at}
+use Rattle.lemmas.proofs.Permutations.{Each, put_first}
 use Rattle.law_confluence.specs.Outcome.{AreInputsOf}
 use Rattle.law_confluence.proofs.ActivityRows.{Gate, Join, Steering, class_of, class_node, class_in, class_at, region_node, region_in, region_at, region_is_arm, RowMerges}
 use Rattle.law_confluence.proofs.HistoryGrounds.{class_line, node_class, own_arm, row_grounded}
@@ -29,8 +29,8 @@ use Rattle.law_language.specs.MeansHolds.{resolved}
 use Rattle.law_language.proofs.MeansLies.{Inside, Here, Further, LieIn, HoldsMade}
 use Rattle.law_ordered_runs.proofs.EntersPast.{Past}
 use Rattle.law_ordered_runs.proofs.Extending.{Going, Came, On}
-use Rattle.law_ordered_runs.proofs.Origins.{DueIn, Comes, some_operand, happened_at, operand_source, lawful, one_token, taken_came}
-use Rattle.law_ordered_runs.proofs.Closing.{AtLine, AsFires, AsGates, AsPasses, fires_line, gates_line, passes_line, Closes, ClosesLine, ClosesIn, closes_node}
+use Rattle.law_ordered_runs.proofs.Origins.{Comes, some_operand, happened_at, operand_source, lawful, one_token, taken_came}
+use Rattle.law_ordered_runs.proofs.Closing.{AtLine, AsFires, AsGates, AsPasses, fires_line, gates_line, passes_line, Closes, ClosesLine, closes_node}
 use Rattle.law_ordered_runs.proofs.Closing.{closes_never, closes_none, closes_both}
 
 pub block_shaped : (g : Graph) → WellFormed g → (c : Context) (b : Block ℕ) → block_of (flow_of g) c ≡ Some b → IsBlock (flow_of g) b

@@ -1,13 +1,12 @@
 -- ONE ITERATION AFTER ANOTHER, and programs that read each cell behind the store that fills it.
-use Rattle.std.specs.Prelude.{◌≡◌, ℕ, ◌+◌, ◌<◌, ◌≤◌, ◌⊎◌, ℤ, List, [], ◌∷◌, ◌++◌, length, All, Option, Some, None, slice_get}
+use Rattle.std.specs.Prelude.{◌≡◌, ℕ, ◌+◌, ◌<◌, ◌≤◌, ℤ, List, [], ◌∷◌, ◌++◌, Some, slice_get}
 use Rattle.tags.specs.declared.value.Value.{Value}
 use Rattle.tags.specs.declared.value.Origin.{Origin}
 use Rattle.operators.specs.Values.{Indexed, Place, Outside}
-use Rattle.semantics.specs.declared.graph.Kind.TheVariants.{Loop}
-use Rattle.semantics.specs.Graph.{Node, Graph, Flow, flow_of}
+use Rattle.semantics.specs.Graph.{Graph, Flow, flow_of}
 use Rattle.semantics.specs.WellFormed.{WellFormed}
 use Rattle.semantics.specs.Meaning as Meaning
-use Rattle.semantics.specs.Meaning.{Context, Main, Called, Turned, State, Activity, Fires, Gates, Passes, Returns, Turns, Outputs, Run, Reached, start, node_of}
+use Rattle.semantics.specs.Meaning.{Context, Turned, State, Activity, Run, start, node_of}
 use Rattle.source.specs.Tree.{Expr, Exprs, Body, Turn, Program}
 use Rattle.source.specs.Evaluates as eval
 use Rattle.source.specs.Evaluates.{World, Env, Stores, place_in, Evaluates, EvaluatesAll, Runs, number, named, bracket, prefix, infix_, fetch, store, call}

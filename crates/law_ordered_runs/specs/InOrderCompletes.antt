@@ -58,8 +58,8 @@ ProgramsInOrderComplete = (text : List ℕ) (p : Program) (g : Graph) (origin : 
     → (z : Size) (most : ℕ) → IsLargeEnough g code z most (calls_and_turns k) (turns_in k)
     → (by_list may_stop : Bool) (r : Report) → Shows code z inputs most by_list may_stop r → IsNotCut by_list r → Completes r
 
--- and whatever the bounds of its loops, faithful code that starves for credits alone only where no run of the meaning keeps within. That the compiler's
--- code is such code is not proved here.
+-- and whatever the bounds of its loops, faithful code that starves for credits alone only where no run of the meaning keeps within. The compiler's code is
+-- such code (`law_loop_credits`).
 abbrev pub ProgramsInOrderCompleteWithin : Type 0
 ProgramsInOrderCompleteWithin = (text : List ℕ) (p : Program) (g : Graph) (origin : ℕ → Origin) → IsLoweredText text p g origin → WellFormed g
     → (code : Code.Program) → Faithful (flow_of g) code → StarvesOutside (flow_of g) code

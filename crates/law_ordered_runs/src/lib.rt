@@ -59,7 +59,7 @@ pub fn programs_run_in_order()
 ///
 /// Its meaning comes to rest, with no fetch waiting, and calls for no more than these. True code of its graph completes where each loop's bound is at
 /// least the iterations of all loops. Faithful code completes whatever the bounds are, if it starves for credits alone only where no run of the
-/// meaning to its end keeps each loop within its bound; that the compiler's code is such code is not proved here.
+/// meaning to its end keeps each loop within its bound: the compiler's code is such code (`law_loop_credits`).
 pub fn programs_complete_in_order()
     ensures rests { ProgramsComeToRest }
     ensures completes { ProgramsInOrderComplete }
