@@ -1,5 +1,5 @@
 -- WHERE THE TOKENS OF A RUN COME FROM, and that an activity has happened where a token at one of its places was taken.
-use Rattle.std.proofs.Common.{◌≡◌, ℕ, ◌+◌, ◌<◌, ◌⊎◌, ℤ, List, [], ◌∷◌, ◌++◌, length, flat_map, Some, Contains, refl, sym, ap, ◌∙◌}
+use Rattle.std.proofs.Common.{◌≡◌, ℕ, ◌<◌, ℤ, List, [], ◌∷◌, ◌++◌, length, flat_map, Some, Contains, refl, sym, ap, ◌∙◌}
 use Rattle.std.proofs.Common.{subst, arith, ⊎_elim}
 use Rattle.std.specs.Prelude.{slice_get}
 use Rattle.std.proofs.lemmas.Option.{same_Some}

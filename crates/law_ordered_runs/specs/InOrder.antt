@@ -1,5 +1,5 @@
 -- ONE ITERATION AFTER ANOTHER, and programs that read each cell behind the store that fills it.
-use Rattle.std.specs.Prelude.{◌≡◌, ℕ, ◌+◌, ◌<◌, ◌≤◌, ℤ, List, [], ◌∷◌, ◌++◌, Some, slice_get}
+use Rattle.std.specs.Prelude.{◌≡◌, ℕ, ◌<◌, ◌≤◌, ℤ, List, [], ◌∷◌, ◌++◌, Some, slice_get}
 use Rattle.tags.specs.declared.value.Value.{Value}
 use Rattle.tags.specs.declared.value.Origin.{Origin}
 use Rattle.operators.specs.Values.{Indexed, Place, Outside}
