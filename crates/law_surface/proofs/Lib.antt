@@ -13,3 +13,5 @@ mod DesugaredFits
 mod ConstantsSmall
 mod DesugaredProgramFits
 mod PlacedApart
+mod SameNames
+mod DepthIsFound

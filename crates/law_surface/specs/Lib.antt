@@ -1,3 +1,5 @@
 pub mod CoreIsSurface
 pub mod GoodGivesGood
 pub mod PlacedApart
+pub mod SameNames
+pub mod DepthIsFound

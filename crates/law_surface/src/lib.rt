@@ -3,6 +3,8 @@
 //! **The statements.** `core_is_surface` (`specs/CoreIsSurface`): each good program of the core is a good program with derived forms, which has the
 //! same tokens and is short for itself. `desugared_programs_fit` (`specs/GoodGivesGood`): what a good program with derived forms is short for fits the
 //! grammar of the core. `placed_programs_are_apart` (`specs/PlacedApart`): in a program with places of its own no two tokens have one place.
+//! `names_are_same` (`specs/SameNames`): a run of letters and digits is a name here exactly if it is one in the core.
+//! `depth_is_found` (`specs/DepthIsFound`): a core program has a part that is too deep exactly if it is deeper than 200.
 //!
 //! **Why they hold.** By induction on the tree. A program of the core has in each of its parts no `let` to hold and no hidden name to give
 //! (`EmbeddedDesugared`); what is known of its items are those of the core (`EmbeddedHeads`), so the rules say the same (`EmbeddedRules`). What is made
@@ -12,8 +14,10 @@
 #![tactic(auto)]
 
 ghost use Rattle.law_surface.specs.CoreIsSurface.{CoreIsSurface};
+ghost use Rattle.law_surface.specs.DepthIsFound.{DepthIsFound};
 ghost use Rattle.law_surface.specs.GoodGivesGood.{DesugaredFits};
 ghost use Rattle.law_surface.specs.PlacedApart.{PlacedApart};
+ghost use Rattle.law_surface.specs.SameNames.{NamesAreSame};
 
 /// A good program of the core is a good program with derived forms: it has the same tokens, is as deep, keeps the rules, and is
 /// short for itself, with its places.
@@ -29,4 +33,14 @@ pub fn desugared_programs_fit()
 /// In a placed program no two tokens have one place.
 pub fn placed_programs_are_apart()
     ensures law { PlacedApart }
+{}
+
+/// A run of letters, digits and `_` is a name exactly if it is one in the core.
+pub fn names_are_same()
+    ensures law { NamesAreSame }
+{}
+
+/// A core program has no part that is too deep exactly if it is at most 200 deep.
+pub fn depth_is_found()
+    ensures law { DepthIsFound }
 {}
