@@ -10,3 +10,4 @@ mod Rowed
 mod GraphEnds
 mod IntegerLines
 pub mod PipedRuns
+mod Sufficing

@@ -287,6 +287,7 @@ fn sufficient_of(needs: Option<MachineNeeds>) -> Option<Sufficient>
 }
 
 /// What suffices in every order, as it is printed. With a picture nothing is.
+#[tactic(auto, using(crate::proofs::Sufficing::shown_sufficient))]
 fn sufficient_beside<
     'a,
     R: Threads + Wait + Sync,
