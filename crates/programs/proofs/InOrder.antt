@@ -1,5 +1,5 @@
 -- A program that reads each cell behind its store: its report ends at rest and has what its evaluation computes.
-use Rattle.std.proofs.Common.{◌≡◌, ℕ, Bool, ℤ, List, [], ◌∷◌, map, Option, Some, Contains, ◌↔◌, sym, ◌∙◌, subst}
+use Rattle.std.proofs.Common.{◌≡◌, ℕ, Bool, false, ℤ, List, [], ◌∷◌, map, Some, Contains, ◌↔◌, sym, ◌∙◌, subst}
 use Rattle.tags.specs.declared.value.Value.{Value}
 use Rattle.semantics.specs.declared.report.End.TheVariants.{Rest}
 use Rattle.semantics.specs.Graph.{Graph, Flow, flow_of}
@@ -16,8 +16,12 @@ use Rattle.source.specs.Lowered.{origin_of}
 use Rattle.source.specs.Theorem.{RestsWell, Computes}
 use Rattle.source.specs.Tokens.{program_of}
 use Rattle.lowered_text.specs.Lowers.{Lowers}
-use Rattle.law_ordered_runs.specs.InOrderCompletes.{EvaluatesInOrder, ComesToRest, ProgramsComeToRest}
-use Rattle.driver.specs.Headline.{IsOutcome, ReportsOf, ReportsTruthIn}
+use Rattle.law_compiler.specs.Objects.{plan_of}
+use Rattle.law_completion.specs.Total.{IsNotCut, Completes}
+use Rattle.law_loops_complete.specs.LoopsComplete.{HasSpace}
+use Rattle.law_ordered_runs.specs.InOrderCompletes.{EvaluatesInOrder, ProgramsComeToRest, calls_and_turns}
+use Rattle.driver.specs.Headline.{ReportsOf, ReportsTruthIn, ReportsQuietly}
+use Rattle.driver.specs.Orders.{size_of}
 use Rattle.driver.proofs.Completed.{kept_order_suffices_quietly}
 use Rattle.programs.specs.InOrder.{OrderedProgramsComplete}
 use Rattle.programs.proofs.Completed.{quiet_fit}
@@ -51,13 +55,22 @@ module _ (text : List ℕ) (p : Program) (g : Graph) (h : Lowers text p g) (inpu
   mode_shown Mode.Rounds c may_stop r t = report_shown _ _ _ _ r t
   mode_shown Mode.Free c may_stop r t = report_shown _ _ _ _ r t
 
+-- A report of the program's graph that was not cut off, by whatever means it was made
+pub quiet_arrives : ProgramsComeToRest → (text : List ℕ) (p : Program) (g : Graph) → Lowers text p g → (mode : Mode) (inputs : List ℤ) (c : Config)
+    (may_stop : Bool) (r : Report) → ReportsQuietly mode (text_of g) g inputs c may_stop r → (k : EvaluatesInOrder p (origin_of p) inputs)
+    → HasSpace (plan_of g).program (size_of c) c.steps (calls_and_turns k) → IsNotCut false r
+    → Completes r × (r.outputs ≡ map (λ v. Some v) k.computes.outputs) × ((x : ℕ) (v : Value) → Contains r.cells (x, v) ↔ Contains k.computes.stores (x, v))
+quiet_arrives come text p g lowers mode inputs c may_stop r truth k space uncut =
+    let low = lowered_text text p g lowers in
+    let fits = quiet_fit mode (text_of g) g inputs c may_stop r truth in
+    let at = come (program_of text) p g (origin_of p) low lowers.well_formed inputs fits k in
+    let v = kept_order_suffices_quietly mode (text_of g) g inputs c may_stop r truth _ _
+    (record { state = at.state; rests = at.rests; calls = at.calls }) at.within space uncut in
+    let shown = mode_shown text p g lowers inputs k.memory k.computes at.state at.rests at.memory mode c may_stop (with_events r truth.2.1) truth.2.2 v.rest
+    v.none_waits in
+    (v, shown.0, shown.1)
+
 pub ordered_programs_complete : ProgramsComeToRest → OrderedProgramsComplete
 ordered_programs_complete come mode text inputs c may_stop r report k space uncut =
-    let low = lowered_text text report.program report.graph report.lowers in
-    let fits = quiet_fit mode (text_of report.graph) report.graph inputs c may_stop r report.truth in
-    let at = come (program_of text) report.program report.graph (origin_of report.program) low report.lowers.well_formed inputs fits k in
-    let v = kept_order_suffices_quietly mode (text_of report.graph) report.graph inputs c may_stop r report.truth _ _
-    (record { state = at.state; rests = at.rests; calls = at.calls }) at.within space uncut in
-    let shown = mode_shown text report.program report.graph report.lowers inputs k.memory k.computes at.state at.rests at.memory mode c may_stop
-    (with_events r report.truth.2.1) report.truth.2.2 v.rest v.none_waits in
-    (v, report.shows v.rest v.none_waits, shown.0, shown.1)
+    let v = quiet_arrives come text report.program report.graph report.lowers mode inputs c may_stop r report.truth k space uncut in
+    (v.0, report.shows v.0.rest v.0.none_waits, v.1, v.2)

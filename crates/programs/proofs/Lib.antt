@@ -2,4 +2,4 @@ mod Outputs
 pub mod Shown
 mod Refusals
 mod Completed
-mod InOrder
+pub mod InOrder
