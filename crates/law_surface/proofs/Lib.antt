@@ -15,3 +15,4 @@ mod DesugaredProgramFits
 mod PlacedApart
 mod SameNames
 mod DepthIsFound
+mod PrefixIsFree

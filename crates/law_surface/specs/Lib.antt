@@ -3,3 +3,4 @@ pub mod GoodGivesGood
 pub mod PlacedApart
 pub mod SameNames
 pub mod DepthIsFound
+pub mod PrefixIsFree

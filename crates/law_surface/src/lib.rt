@@ -5,6 +5,7 @@
 //! grammar of the core. `placed_programs_are_apart` (`specs/PlacedApart`): in a program with places of its own no two tokens have one place.
 //! `names_are_same` (`specs/SameNames`): a run of letters and digits is a name here exactly if it is one in the core.
 //! `depth_is_found` (`specs/DepthIsFound`): a core program has a part that is too deep exactly if it is deeper than 200.
+//! `prefix_is_free` (`specs/PrefixIsFree`): no name of a text begins as the hidden ones do.
 //!
 //! **Why they hold.** By induction on the tree. A program of the core has in each of its parts no `let` to hold and no hidden name to give
 //! (`EmbeddedDesugared`); what is known of its items are those of the core (`EmbeddedHeads`), so the rules say the same (`EmbeddedRules`). What is made
@@ -17,6 +18,7 @@ ghost use Rattle.law_surface.specs.CoreIsSurface.{CoreIsSurface};
 ghost use Rattle.law_surface.specs.DepthIsFound.{DepthIsFound};
 ghost use Rattle.law_surface.specs.GoodGivesGood.{DesugaredFits};
 ghost use Rattle.law_surface.specs.PlacedApart.{PlacedApart};
+ghost use Rattle.law_surface.specs.PrefixIsFree.{PrefixIsFree};
 ghost use Rattle.law_surface.specs.SameNames.{NamesAreSame};
 
 /// A good program of the core is a good program with derived forms: it has the same tokens, is as deep, keeps the rules, and is
@@ -43,4 +45,9 @@ pub fn names_are_same()
 /// A core program has no part that is too deep exactly if it is at most 200 deep.
 pub fn depth_is_found()
     ensures law { DepthIsFound }
+{}
+
+/// No name of a text begins with the prefix of the hidden ones, where the text has fewer than 2^64 names.
+pub fn prefix_is_free()
+    ensures law { PrefixIsFree }
 {}
