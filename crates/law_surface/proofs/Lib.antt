@@ -16,3 +16,4 @@ mod PlacedApart
 mod SameNames
 mod DepthIsFound
 mod PrefixIsFree
+mod InstancesAreNew

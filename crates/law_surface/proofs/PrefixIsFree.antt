@@ -12,7 +12,7 @@ use Rattle.surface.specs.Instances.{prefix_number, free_prefix}
 use Rattle.law_surface.specs.PrefixIsFree.{PrefixIsFree}
 
 -- DIGITS are no `_`.
-abbrev AllLow : List ℕ → Type 0
+abbrev pub AllLow : List ℕ → Type 0
 AllLow [] = ⊤
 AllLow (c ∷ cs) = (c < 95) × AllLow cs
 
@@ -20,7 +20,7 @@ low_join : (cs ds : List ℕ) → AllLow cs → AllLow ds → AllLow (cs ++ ds)
 low_join [] ds h g = g
 low_join (c ∷ cs) ds h g = (h.0, low_join cs ds h.1 g)
 
-decimal_low : (n : ℕ) → n < 2 ^ 64 → AllLow (decimal n)
+pub decimal_low : (n : ℕ) → n < 2 ^ 64 → AllLow (decimal n)
 decimal_low n h = decimal_by_steps (λ (n : ℕ) (ds : List ℕ). AllLow ds) (λ n h. (omega (arith, h), tt)) (λ n ds h low. low_join ds ((48 + n % 10) ∷ []) low (
   omega
       arith,

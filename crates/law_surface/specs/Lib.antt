@@ -4,3 +4,4 @@ pub mod PlacedApart
 pub mod SameNames
 pub mod DepthIsFound
 pub mod PrefixIsFree
+pub mod InstancesAreNew

@@ -6,6 +6,7 @@
 //! `names_are_same` (`specs/SameNames`): a run of letters and digits is a name here exactly if it is one in the core.
 //! `depth_is_found` (`specs/DepthIsFound`): a core program has a part that is too deep exactly if it is deeper than 200.
 //! `prefix_is_free` (`specs/PrefixIsFree`): no name of a text begins as the hidden ones do.
+//! `instances_are_new` (`specs/InstancesAreNew`): the name of an instance is no name of the text, not that of another instance, and no hidden one.
 //!
 //! **Why they hold.** By induction on the tree. A program of the core has in each of its parts no `let` to hold and no hidden name to give
 //! (`EmbeddedDesugared`); what is known of its items are those of the core (`EmbeddedHeads`), so the rules say the same (`EmbeddedRules`). What is made
@@ -17,6 +18,7 @@
 ghost use Rattle.law_surface.specs.CoreIsSurface.{CoreIsSurface};
 ghost use Rattle.law_surface.specs.DepthIsFound.{DepthIsFound};
 ghost use Rattle.law_surface.specs.GoodGivesGood.{DesugaredFits};
+ghost use Rattle.law_surface.specs.InstancesAreNew.{InstancesAreNew};
 ghost use Rattle.law_surface.specs.PlacedApart.{PlacedApart};
 ghost use Rattle.law_surface.specs.PrefixIsFree.{PrefixIsFree};
 ghost use Rattle.law_surface.specs.SameNames.{NamesAreSame};
@@ -50,4 +52,9 @@ pub fn depth_is_found()
 /// No name of a text begins with the prefix of the hidden ones, where the text has fewer than 2^64 names.
 pub fn prefix_is_free()
     ensures law { PrefixIsFree }
+{}
+
+/// The name of an instance is no name of the text, not that of an instance before it, and no hidden one.
+pub fn instances_are_new()
+    ensures law { InstancesAreNew }
 {}
