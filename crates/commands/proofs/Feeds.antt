@@ -1,5 +1,5 @@
 -- What an input gives, or why it does not, stated of the commands that read it.
-use Rattle.std.proofs.Common.{◌≡◌, ℕ, ℤ, List, Bool, false, inl, inr, ◌⊎◌, Result, Ok, Err, refl, sym, subst}
+use Rattle.std.proofs.Common.{Option, ◌≡◌, ℕ, ℤ, List, Bool, false, inl, inr, ◌⊎◌, Result, Ok, Err, refl, sym, subst}
 use Rattle.std.specs.Prelude.{Some, None}
 use Rattle.semantics.specs.Graph.{Graph}
 use Rattle.semantics.specs.Report.{Report}
