@@ -1,6 +1,6 @@
 -- The code tells the opcode, where it exists.
 use Rattle.std.proofs.Common.{◌≡◌, ℕ, ◌/◌, ◌%◌, ◌^◌, ◌<◌, ◌≤◌, Bool, true, false, ◌==◌, if◌then◌else◌, List, [], ◌∷◌, ◌++◌, Option, Some, None}
-use Rattle.std.proofs.Common.{refl, ap, subst, ◌∙◌}
+use Rattle.std.proofs.Common.{refl, sym, ap, subst, ◌∙◌}
 use Rattle.std.specs.Prelude.{IsSome, nat_lt, nat_le, ◌&&◌, map}
 use Rattle.std.proofs.lemmas.Bool.{ltb-true, leb-true, and_parts}
 use Rattle.operators.specs.declared.Binary.{Binary}
@@ -30,13 +30,18 @@ none_there None e k = absurd cc
 none_there (Some o) e k = absurd cc
 
 -- and one that has no flag
-pub other_known : (x : ℕ) (o : Opcode) → IsSome (opcode_in x) → x % 2 ^ 8 ≡ code_number o → binary_of (code_number o) ≡ None
+other_known : (x : ℕ) (o : Opcode) → IsSome (opcode_in x) → x % 2 ^ 8 ≡ code_number o → binary_of (code_number o) ≡ None
     → unflagged (code_number o) ≡ Some o → opcode_in x ≡ Some o
 other_known x o h e none plain = go (x / 2 ^ 8 % 2 ^ 8 == 0) (code_read x (code_number o) None e none)
   where
     go : (t : Bool) → opcode_in x ≡ (if t then unflagged (code_number o) else None) → opcode_in x ≡ Some o
     go true q = q ∙ plain
     go false q = absurd (none_there (opcode_in x) q h)
+
+-- and of a number that is the code
+pub plain_known : (x r : ℕ) (o : Opcode) → IsSome (opcode_in x) → r ≡ x % 2 ^ 8 → r ≡ code_number o → binary_of (code_number o) ≡ None
+    → unflagged (code_number o) ≡ Some o → opcode_in x ≡ Some o
+plain_known x r o h e is none plain = other_known x o h (sym e ∙ is) none plain
 
 -- WHICH CODES THERE ARE: those of the operators on two values, and the others
 abbrev largest : List ℕ → ℕ

@@ -1,6 +1,6 @@
 //! The words of an object's bytes.
 
-ghost use Rattle.std.specs.Prelude.{◌≡◌, ◌+◌, ◌*◌, ◌%◌, ◌≤◌, Some, None, IsSome, length, option_map};
+ghost use Rattle.std.specs.Prelude.{◌≡◌, ◌+◌, ◌*◌, ◌%◌, ◌<◌, ◌≤◌, Some, None, IsSome, length, option_map};
 ghost use Rattle.object_view.specs.Fields as Fields;
 ghost use Rattle.semantics.specs.Opcodes as Opcodes;
 
@@ -92,16 +92,15 @@ impl Head {
         with_flag(op, self.word / 256 % 256)
     }
 
-    /// This opcode, which is no operator on two values and so has no flag, where the code is its own.
+    /// The code, where it exists. All codes are below 64: six bits tell them, with room for more.
     #[inline(always)]
-    fn known_other(self, opcode: Opcode) -> Opcode
-        requires there { IsSome (Fields.opcode_in self.word) }
-        requires code { self.word % 256 ≡ Opcodes.code_number opcode }
-        requires other { Opcodes.binary_of (Opcodes.code_number opcode) ≡ None }
-        requires named { Opcodes.unflagged (Opcodes.code_number opcode) ≡ Some opcode }
-        ensures { Fields.opcode_in self.word ≡ Some result }
+    fn known_code(self) -> u64
+        requires { IsSome (Fields.opcode_in self.word) }
+        ensures code { result ≡ self.word % 256 }
+        ensures there { 0 < result }
+        ensures within { result ≤ 32 }
     {
-        opcode
+        self.word % 64
     }
 
     /// The opcode, where it exists. No two have one code, so that one jump leads to each.
@@ -110,7 +109,7 @@ impl Head {
         requires { IsSome (Fields.opcode_in self.word) }
         ensures { Fields.opcode_in self.word ≡ Some result }
     {
-        match self.word % 256 {
+        match self.known_code() {
             1 => self.known_operator(Binary::Add),
             2 => self.known_operator(Binary::Sub),
             3 => self.known_operator(Binary::Mul),
@@ -125,25 +124,24 @@ impl Head {
             12 => self.known_operator(Binary::Ne),
             13 => self.known_operator(Binary::Lt),
             14 => self.known_operator(Binary::Le),
-            15 => self.known_other(Opcode::Apply1 { op: Unary::Neg }),
-            16 => self.known_other(Opcode::Apply1 { op: Unary::Not }),
-            17 => self.known_other(Opcode::Lit),
-            18 => self.known_other(Opcode::Copy),
-            19 => self.known_other(Opcode::Sync),
-            20 => self.known_other(Opcode::Switch),
-            21 => self.known_other(Opcode::Fetch),
-            22 => self.known_other(Opcode::Store),
-            23 => self.known_other(Opcode::Frame),
-            24 => self.known_other(Opcode::Link),
-            25 => self.known_other(Opcode::Send),
-            26 => self.known_other(Opcode::Return),
-            27 => self.known_other(Opcode::Ask),
-            28 => self.known_other(Opcode::Open),
-            29 => self.known_other(Opcode::Take),
-            30 => self.known_other(Opcode::Give),
-            31 => self.known_other(Opcode::Drain),
-            32 => self.known_other(Opcode::Release),
-            _ => unreachable!(),
+            15 => Opcode::Apply1 { op: Unary::Neg },
+            16 => Opcode::Apply1 { op: Unary::Not },
+            17 => Opcode::Lit,
+            18 => Opcode::Copy,
+            19 => Opcode::Sync,
+            20 => Opcode::Switch,
+            21 => Opcode::Fetch,
+            22 => Opcode::Store,
+            23 => Opcode::Frame,
+            24 => Opcode::Link,
+            25 => Opcode::Send,
+            26 => Opcode::Return,
+            27 => Opcode::Ask,
+            28 => Opcode::Open,
+            29 => Opcode::Take,
+            30 => Opcode::Give,
+            31 => Opcode::Drain,
+            _ => Opcode::Release,
         }
     }
 
