@@ -1,5 +1,5 @@
 -- What is done in a ring, as seen in its list.
-use Rattle.std.proofs.Common.{◌≡◌, refl, ℕ, suc, ◌+◌, ◌-◌, ◌%◌, ◌^◌, ◌<◌, ◌≤◌, ◌⊎◌, List, [], ◌∷◌, ◌++◌, length, get_or, take, drop, set, bit_and, sym}
+use Rattle.std.proofs.Common.{◌≡◌, refl, ℕ, zero, suc, ◌+◌, ◌-◌, ◌%◌, ◌^◌, ◌<◌, ◌≤◌, ◌⊎◌, List, [], ◌∷◌, ◌++◌, length, get_or, take, drop, set, bit_and, sym}
 use Rattle.std.proofs.Common.{ap, ◌∙◌, subst, inl, inr, mod-eq_of_lt, arith, length-append, length-drop, length-set, length-take-le, get_or-drop}
 use Rattle.std.proofs.Common.{get_or-take, append_assoc}
 use native.Mathlib.Nat.{mod-eq-sub-mod, mod-add-mod}
@@ -248,3 +248,46 @@ module _ {X : Type 0} (h t : ℕ) (xs : List X) (power : IsPower (length xs)) (f
       ap (λ n. ring ((h + 1) % 2 ^ 64 % length xs) n xs) (between_popped h t begun ended some)
       ∙ ap (λ at. ring at (between h t - 1) xs) (place_on (length xs) h 1 power few)
       ∙ ring_popped (length xs) (h % length xs) (between h t) xs low fits refl some
+
+-- A TOKEN THAT IS PUT FIRST AGAIN, into the place k before the first one
+pub ring_put_back : {X : Type 0} (N k n : ℕ) (xs : List X) (x : X) → k < N → n < N → length xs ≡ N
+    → ring k (n + 1) (set xs k x) ≡ x ∷ ring ((k + 1) % N) n xs
+ring_put_back N k n xs x head count places =
+    let ys = set xs k x in
+    let length_ys = length-set xs k x ∙ places in
+    let next : (k + 1) % N < N = mod-lt (k + 1) (omega arith) in
+    let length_old = length-ring N ((k + 1) % N) n xs next (omega arith) places in
+    let length_new = length-ring N k (n + 1) ys head (omega arith) length_ys in
+    same_lists _ _ (grind (arith, common_steps)) (λ i d within. by_place N k n xs x head count places i d (omega arith))
+  where
+    by_place : {X : Type 0} (N k n : ℕ) (xs : List X) (x : X) → k < N → n < N → length xs ≡ N → (i : ℕ) (d : X) → i < n + 1
+        → get_or (ring k (n + 1) (set xs k x)) i d ≡ get_or (x ∷ ring ((k + 1) % N) n xs) i d
+    by_place N k n xs x head count places zero d within =
+        let ys = set xs k x in
+        let length_ys = length-set xs k x ∙ places in
+        get_or-ring N k (n + 1) ys head (omega arith) length_ys 0 d (omega arith) ∙ grind (arith, common_steps, rounds N (k + 0) (omega arith))
+    by_place N k n xs x head count places (suc i) d within =
+        let ys = set xs k x in
+        let length_ys = length-set xs k x ∙ places in
+        get_or-ring N k (n + 1) ys head (omega arith) length_ys (suc i) d within
+        ∙ grind (
+          arith,
+          common_steps,
+          rounds N (k + suc i) (omega arith),
+          mod-add-mod (k + 1) N i,
+          get_or-ring N ((k + 1) % N) n xs (mod-lt (k + 1) (omega arith)) (omega arith) places i d (omega arith),
+        )
+
+pub held_put_back : {X : Type 0} (h t : ℕ) (xs : List X) (power : IsPower (length xs)) (few : length xs ≤ 2 ^ 63) → 0 < h → h < 2 ^ 64 → t < 2 ^ 64
+    → between h t < length xs → (x : X) → held (h - 1) t (set xs ((h - 1) % length xs) x) ≡ x ∷ held h t xs
+held_put_back h t xs power few some begun ended room x =
+    let n = length xs in
+    let at = (h - 1) % n in
+    let low : at < n = mod-lt (h - 1) (power_some n power) in
+    let more : between (h - 1) t ≡ between h t + 1 = omega arith in
+    let next : (at + 1) % n ≡ h % n = sym (place_on n (h - 1) 1 power few) ∙ ap (λ (i : ℕ). i % 2 ^ 64 % n) (let e : h - 1 + 1 ≡ h = omega arith in e)
+    ∙ begun_again n h power few in
+    ap (λ m. ring ((h - 1) % m) (between (h - 1) t) (set xs at x)) (length-set xs at x)
+    ∙ ap (λ m. ring at m (set xs at x)) more
+    ∙ ring_put_back n at (between h t) xs x low room refl
+    ∙ ap (λ k. x ∷ ring k (between h t) xs) next

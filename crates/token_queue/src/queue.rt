@@ -175,6 +175,21 @@ impl<A: Allocator> TokenQueue<A> {
         self.tail = self.tail.wrapping_add(1);
     }
 
+    /// Puts a token that was taken out first again, where there is room: then one fewer was taken out.
+    #[inline(always)]
+    pub fn put_back(&mut self, token: PackedToken)
+        requires room { length self.old.items < self.old.room }
+        requires some { 0 < self.old.gone }
+        ensures items { self.new.items ≡ token ∷ self.old.items }
+        ensures room { self.new.room ≡ self.old.room }
+        ensures gone { self.new.gone + 1 ≡ self.old.gone }
+    {
+        let head = self.head.wrapping_sub(1);
+        let at = place(self.places.len(), self.mask, head);
+        self.places[at] = token;
+        self.head = head;
+    }
+
     /// The token of this number, the oldest being 0.
     #[inline(always)]
     pub fn get(&self, at: usize) -> Token
