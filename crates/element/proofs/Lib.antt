@@ -9,3 +9,5 @@ pub mod Turns
 pub mod Opening
 pub mod Quotients
 pub mod Classes
+pub mod HeldBack
+pub mod Aside

@@ -9,3 +9,5 @@ pub mod Acts
 pub mod Steps
 pub mod Openings
 pub mod Outcomes
+pub mod Requests
+pub mod ByDepth

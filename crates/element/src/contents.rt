@@ -7,6 +7,7 @@ ghost use Rattle.frame_store.specs.BankViews.{bank_states};
 ghost use Rattle.semantics.specs.Program.{Program};
 ghost use Rattle.element.specs.Acts.{CanAct, ActsAs};
 ghost use Rattle.element.specs.Steps.{Steps, Picks, SendsEvents};
+ghost use Rattle.element.specs.ByDepth.{SendsOthers};
 ghost use Rattle.element.specs.Openings.{opened, shape_at, IsOpening, StartsAs};
 
 use crate::company::{Company, Together};
@@ -27,6 +28,7 @@ use token_queue::queue::TokenQueue;
 
 mod away;
 mod executing;
+mod holding_back;
 mod host;
 mod memory;
 mod requests;
@@ -323,12 +325,16 @@ impl<'m, A: Allocator> Contents<'m, A> {
         requires sent_room { (T.COUNT == 1) ≡ false → vec_len sent.old + 2 * events ≤ vec_capacity sent.old }
         ensures exact { (steps : ℕ) → self.old.queue.gone + events ≤ steps → (made : ℕ) × SendsEvents (C.program code.now) steps made (held_in self.old)
             sent.old.items (held_in self.new) sent.new.items }
+        ensures others { T.HOLDS ≡ true → (steps : ℕ) → self.old.queue.gone + events ≤ steps → (made : ℕ) × SendsOthers (C.program code.now) steps made
+            (held_in self.old) sent.old.items (held_in self.new) sent.new.items }
         ensures sound { IsSoundLane (C.program code.now) (held_in self.new) }
         ensures shape { shape_of self.new ≡ shape_of self.old }
         ensures all { result ≡ true → self.new.queue.gone ≡ self.old.queue.gone + events }
         ensures most { self.new.queue.gone ≤ self.old.queue.gone + events }
         ensures part { result ≡ false → self.new.queue.gone < self.old.queue.gone + events }
+        ensures least { self.old.queue.gone ≤ self.new.queue.gone }
         ensures len { length self.new.queue.items ≤ length self.old.queue.items + 2 * events }
+        ensures made_len { length self.new.queue.items + 2 * self.old.queue.gone ≤ length self.old.queue.items + 2 * self.new.queue.gone }
         ensures capacity { self.new.queue.room ≡ self.old.queue.room }
         ensures sent_len { vec_len sent.new ≤ vec_len sent.old + 2 * events }
         ensures sent_capacity { vec_capacity sent.new ≡ vec_capacity sent.old }
@@ -368,11 +374,16 @@ impl<'m, A: Allocator> Contents<'m, A> {
         requires sent_room { (T.COUNT == 1) ≡ false → vec_len sent.old + 2 * events ≤ vec_capacity sent.old }
         ensures exact { (steps : ℕ) → self.old.queue.gone + events ≤ steps → (made : ℕ) × SendsEvents (C.program code.now) steps made (held_in self.old)
             sent.old.items (held_in self.new) sent.new.items }
+        ensures others { T.HOLDS ≡ true → (steps : ℕ) → self.old.queue.gone + events ≤ steps → (made : ℕ) × SendsOthers (C.program code.now) steps made
+            (held_in self.old) sent.old.items (held_in self.new) sent.new.items }
         ensures sound { IsSoundLane (C.program code.now) (held_in self.new) }
         ensures shape { shape_of self.new ≡ shape_of self.old }
         ensures all { result ≡ true → self.new.queue.gone ≡ self.old.queue.gone + events }
         ensures most { self.new.queue.gone ≤ self.old.queue.gone + events }
         ensures part { result ≡ false → self.new.queue.gone < self.old.queue.gone + events }
+        ensures least { self.old.queue.gone ≤ self.new.queue.gone }
+        ensures len { length self.new.queue.items + 2 * self.old.queue.gone ≤ length self.old.queue.items + 2 * self.new.queue.gone }
+        ensures capacity { self.new.queue.room ≡ self.old.queue.room }
     {
         let mut left = events as usize;
         'parts: while left != 0 {

@@ -7,10 +7,12 @@ ghost use Rattle.frame_store.specs.BankViews.{bank_states};
 ghost use Rattle.element.specs.Parts.{slot_place};
 ghost use Rattle.element.specs.Holding.{fixed_of, with_more, emptied, IsFor, IsSpent, IsSoundLane};
 ghost use Rattle.element.specs.Steps.{Steps, Stays, Picks, MakesEvents, SendsEvents};
+ghost use Rattle.element.specs.ByDepth.{MakesByDepth};
 ghost use Rattle.element.specs.Openings.{opened, shape_at, IsOpening, StartsAs};
 
 use crate::company::{Alone, Company};
 use crate::contents::Contents;
+use crate::grant_order::GrantOrder;
 use crate::instructions::Instructions;
 use arrayvec::ArrayVec;
 use frame_manager::Manager;
@@ -26,6 +28,9 @@ use token_queue::queue::TokenQueue;
 
 /// For how many tokens for other elements room is made at once.
 const ROOM: usize = 64;
+
+/// From how many events on none is made by depth at once.
+const MANY: u64 = 1_099_511_627_776;
 
 /// What a step did.
 #[derive(Clone, Copy, Debug, PartialEq, Eq)]
@@ -262,12 +267,33 @@ impl<'m, C: Instructions, A: Allocator> Lane<'m, C, A> {
         Some(self.contents.step_otherwise(self.code, sent))
     }
 
+    /// Notes the frame that the token got which the lane took last, if it asked for one. In `sent` lie the tokens that it made for others.
+    pub fn note_frame(&self, taken: &Token, sent: &[PackedToken], order: &mut GrantOrder<A>) {
+        let answer = match sent.last() {
+            Some(token) => token.unpack(),
+            None => {
+                let Some(last) = self.contents.queue.len().checked_sub(1) else {
+                    return;
+                };
+                self.contents.queue.get(last)
+            }
+        };
+        order.note(self.code, taken, &answer);
+    }
+
     /// How many elements there are.
     #[inline(always)]
     pub fn elements(&self) -> u32
         ensures { result ≡ self.now.held.part.shape.elements }
     {
         self.contents.elements
+    }
+
+    /// How many frames it has.
+    pub fn frames(&self) -> usize
+        ensures { result ≡ self.now.held.part.shape.frames }
+    {
+        self.contents.bank.frames()
     }
 
     /// The element makes one event after another, each at once and with its oldest token, as long as it has one, it may make one
@@ -321,5 +347,44 @@ impl<'m, C: Instructions, A: Allocator> Lane<'m, C, A> {
             .min(room_in::<T, A>(sent)?)
             .min(most);
         Ok(self.contents.make_at_once::<C, T>(self.code, events, sent))
+    }
+
+    /// The only element makes one event after another, each at once, as many as there is room for, and takes requests for frames only where it
+    /// has no other token: each event takes its oldest token that is no request, or a request where all are. It stops before a token that is
+    /// not done at once. Requests lie in `aside` meanwhile. Where room is refused nothing is changed.
+    #[inline(always)]
+    pub fn turn_by_depth(
+        &mut self,
+        order: &mut GrantOrder<A>,
+        aside: &mut Vec<PackedToken, A>,
+        sent: &mut Vec<PackedToken, A>,
+    )
+    where
+        A: Clone,
+        requires one { self.old.held.part.shape.elements ≡ 1 }
+        requires none { aside.old.items ≡ [] }
+        ensures exact { (events : ℕ) × MakesByDepth self.old.program self.old.steps events self.old.held self.new.held }
+        ensures aside { aside.new.items ≡ [] }
+        ensures sent { sent.new.items ≡ sent.old.items }
+        ensures sound { IsSoundLane self.new.program self.new.held }
+        ensures most { self.new.held.made ≤ self.new.steps }
+        ensures fixed { fixed_of self.new ≡ fixed_of self.old }
+    {
+        let made = self.contents.made();
+        let allowed = self.steps - made;
+        if MANY <= made {
+            return;
+        }
+        let Ok(room) = self.contents.long_ration() else {
+            return;
+        };
+        let most = allowed.min(room).min(MANY);
+        let waiting = self.contents.queue.len();
+        let tokens = waiting.saturating_add(2 * most as usize);
+        if aside.reserve(tokens).is_err() {
+            return;
+        }
+        self.contents
+            .make_by_depth(self.code, most, order, aside, sent);
     }
 }

@@ -5,8 +5,10 @@ pub mod bundled;
 pub mod company;
 mod contents;
 pub mod firing;
+pub mod grant_order;
 pub mod instructions;
 pub mod lane;
+pub mod requests;
 mod waiting;
 
 ghost use Rattle.element.specs.Openings.{OthersStay};

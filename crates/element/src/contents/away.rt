@@ -10,6 +10,7 @@ ghost use Rattle.element.specs.Parts.{bounds};
 ghost use Rattle.element.specs.Near.{IsNearToken};
 ghost use Rattle.element.specs.Acts.{CanAct, ActsAs};
 ghost use Rattle.element.specs.Changed.{OwnsCell};
+ghost use Rattle.element.specs.Requests.{is_for_manager};
 ghost use Rattle.element.specs.declared.lane.Stepped.TheVariants.{Did};
 
 use super::Contents;
@@ -42,6 +43,7 @@ impl<'m, A: Allocator> Contents<'m, A> {
         ensures did { result ≡ true → ActsAs (C.program code.now) (held_in self.old) at token.now sent.old.items Did (held_in self.new) sent.new.items }
         ensures not { result ≡ false → held_in self.new ≡ held_in self.old }
         ensures unsent { result ≡ false → sent.new.items ≡ sent.old.items }
+        ensures held { T.HOLDS ≡ true → result ≡ true → is_for_manager token.now.to ≡ false }
         ensures len { length self.new.queue.items ≤ length self.old.queue.items + 2 }
         ensures capacity { self.new.queue.room ≡ self.old.queue.room }
         ensures sent_len { vec_len sent.new ≤ vec_len sent.old + 2 }
@@ -69,6 +71,7 @@ impl<'m, A: Allocator> Contents<'m, A> {
         ensures did { result ≡ true → ActsAs (C.program _code.now) (held_in self.old) at token sent.old.items Did (held_in self.new) sent.new.items }
         ensures not { result ≡ false → held_in self.new ≡ held_in self.old }
         ensures unsent { result ≡ false → sent.new.items ≡ sent.old.items }
+        ensures held { T.HOLDS ≡ true → result ≡ true → is_for_manager token.to ≡ false }
         ensures len { length self.new.queue.items ≤ length self.old.queue.items + 2 }
         ensures capacity { self.new.queue.room ≡ self.old.queue.room }
         ensures sent_len { vec_len sent.new ≤ vec_len sent.old + 2 }
@@ -77,7 +80,7 @@ impl<'m, A: Allocator> Contents<'m, A> {
         match token.to() {
             To::Fetch { cell } => self.fetches::<T>(at, &token, cell, sent),
             To::Store { cell, value } => self.stores::<T>(at, &token, cell, &value, sent),
-            To::Manager => self.grants::<T>(at, &token, sent),
+            To::Manager => self.grants_unheld::<T>(at, &token, sent),
             To::Release { frame } => self.frees::<T>(at, &token, frame, sent),
             _ => false,
         }
@@ -165,6 +168,39 @@ impl<'m, A: Allocator> Contents<'m, A> {
             StoreAnswer::Second | StoreAnswer::Memory => false,
             StoreAnswer::NotHere => unreachable!(),
         }
+    }
+
+    // A request for a frame, which is not done where requests are held back.
+    #[inline(always)]
+    fn grants_unheld<T: Company>(
+        &mut self,
+        at: usize,
+        token: &PackedToken,
+        sent: &mut Vec<PackedToken, A>,
+    ) -> bool
+        requires known { 0 < T.COUNT → self.old.elements ≡ T.COUNT }
+        requires some { self.old.element < self.old.elements }
+        requires there { at < length self.old.queue.items }
+        requires few { self.old.queue.gone < 2 ^ 63 }
+        requires address { token.now.to ≡ To.Manager }
+        requires served { self.old.element ≡ 0 }
+        requires manager { IsSome self.old.manager }
+        requires spare { length self.old.queue.items + 3 ≤ self.old.queue.room }
+        requires sent_spare { (T.COUNT == 1) ≡ false → vec_len sent.old + 2 ≤ vec_capacity sent.old }
+        ensures did { result ≡ true → (p : Program) → IsSoundLane p (held_in self.old)
+            → IsNearToken (bounds p (shape_of self.old)) token.now → ActsAs p (held_in self.old) at token.now sent.old.items Did (held_in self.new) sent.new.items }
+        ensures not { result ≡ false → held_in self.new ≡ held_in self.old }
+        ensures unsent { result ≡ false → sent.new.items ≡ sent.old.items }
+        ensures len { length self.new.queue.items ≤ length self.old.queue.items + 2 }
+        ensures capacity { self.new.queue.room ≡ self.old.queue.room }
+        ensures sent_len { vec_len sent.new ≤ vec_len sent.old + 2 }
+        ensures sent_capacity { vec_capacity sent.new ≡ vec_capacity sent.old }
+        ensures held { T.HOLDS ≡ true → result ≡ false }
+    {
+        if T::HOLDS {
+            return false;
+        }
+        self.grants::<T>(at, token, sent)
     }
 
     // A request for a frame. Where it waits and there is no room for it, it is not done at once.

@@ -13,6 +13,7 @@ ghost use Rattle.semantics.specs.Rule as Rule;
 ghost use Rattle.semantics.specs.Rule.{fire_two};
 ghost use Rattle.element.specs.Decoded.{instr_of, IsShort, IsPair, IsLone, IsCredit};
 ghost use Rattle.element.specs.Acts.{CanAct, ActsAs, FiresAs};
+ghost use Rattle.element.specs.Requests.{is_for_manager};
 ghost use Rattle.element.specs.Changed.{with_state, with_place};
 ghost use Rattle.element.specs.Fired.{point_of, passed_on, left_on, HasRoomInWord};
 ghost use Rattle.element.specs.declared.lane.Stepped.TheVariants.{Did};
@@ -86,6 +87,7 @@ impl<'m, A: Allocator> Contents<'m, A> {
         ensures did { result ≡ true → ActsAs (C.program code.now) (held_in self.old) at token.now sent.old.items Did (held_in self.new) sent.new.items }
         ensures not { result ≡ false → held_in self.new ≡ held_in self.old }
         ensures unsent { result ≡ false → sent.new.items ≡ sent.old.items }
+        ensures held { T.HOLDS ≡ true → result ≡ true → is_for_manager token.now.to ≡ false }
         ensures len { length self.new.queue.items ≤ length self.old.queue.items + 2 }
         ensures capacity { self.new.queue.room ≡ self.old.queue.room }
         ensures sent_len { vec_len sent.new ≤ vec_len sent.old + 2 }

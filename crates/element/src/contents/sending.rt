@@ -22,6 +22,9 @@ use tags::token::{To, Token, Word};
 /// For how many tokens room is made at once.
 const ROOM: usize = 64;
 
+/// And where requests for frames are put aside: they are put back whenever there is no more room.
+const LONG_ROOM: usize = 2048;
+
 impl<'m, A: Allocator> Contents<'m, A> {
     /// Makes room, and answers for how many events there is room: each takes a token out, and puts at most three in. After an
     /// error nothing is changed.
@@ -34,6 +37,18 @@ impl<'m, A: Allocator> Contents<'m, A> {
         self.queue.reserve(ROOM)?;
         let spare = self.queue.spare();
         Ok(((spare - 1) / 2) as u64)
+    }
+
+    /// As `ration`, with room for many events.
+    #[inline(never)]
+    pub fn long_ration(&mut self) -> Result<u64, AllocError>
+        ensures held { held_in self.new ≡ held_in self.old }
+        ensures some { IfOk result (λ events. 0 < events) }
+        ensures room { IfOk result (λ events. length self.new.queue.items + 2 * events + 1 ≤ self.new.queue.room) }
+    {
+        self.queue.reserve(LONG_ROOM)?;
+        let events = (self.queue.spare() - 1) / 2;
+        Ok(events as u64)
     }
 
     // Makes room for `tokens` more tokens. After an error nothing is changed.

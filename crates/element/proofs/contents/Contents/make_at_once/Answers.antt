@@ -4,6 +4,7 @@ use Rattle.std.specs.Vec.{vec_capacity}
 use Rattle.std.proofs.lemmas.Grind.{common_steps}
 use Rattle.element.specs.Holding.{Holding, held_in}
 use Rattle.element.proofs.Turns.{sends_more}
+use Rattle.element.proofs.Aside.{others_more}
 use Rattle.element.proofs.contents.Contents.make_at_once.Goals as goal
 
 pub returns-then-not-make_part-clause-exact : goal.returns-then-not-make_part-clause-exact
@@ -37,6 +38,14 @@ parts-preserved-then-waiting-lt-MANY g c =
           let more = c.make_part.ensures.exact steps (omega (arith, counted, fits, most)) in
           sends_more (g.C.Instructions.program c.args.code.now) steps so_far.0 more.0 (held_in c.args.self.now) old (held_in c.make_part.new.self)
           c.args.sent.now.items c.parts.sent.items c.make_part.new.sent.items so_far.1 more.1;
+      others = λ holds steps most.
+          let so_far = inv.others holds steps most in
+          let more = c.make_part.ensures.others holds steps (omega (arith, counted, fits, most)) in
+          others_more (g.C.Instructions.program c.args.code.now) steps so_far.0 more.0 (held_in c.args.self.now) old (held_in c.make_part.new.self)
+          c.args.sent.now.items c.parts.sent.items c.make_part.new.sent.items so_far.1 more.1;
+      len = (let before = inv.len in let now = c.make_part.ensures.made_len in omega arith);
+      capacity = c.make_part.ensures.capacity ∙ inv.capacity;
+      least = (let before = inv.least in let now = c.make_part.ensures.least in omega arith);
       sound = c.make_part.ensures.sound;
       shape = c.make_part.ensures.shape ∙ inv.shape;
       room = omega (arith, room, len, capacity, fits);
@@ -74,8 +83,38 @@ parts-preserved g c =
           let more = c.make_part-else-waiting-lt-MANY.ensures.exact steps (omega (arith, counted, fits, most)) in
           sends_more (g.C.Instructions.program c.args.code.now) steps so_far.0 more.0 (held_in c.args.self.now) old (held_in c.make_part-else-waiting-lt-MANY.new.self)
           c.args.sent.now.items c.parts.sent.items c.make_part-else-waiting-lt-MANY.new.sent.items so_far.1 more.1;
+      others = λ holds steps most.
+          let so_far = inv.others holds steps most in
+          let more = c.make_part-else-waiting-lt-MANY.ensures.others holds steps (omega (arith, counted, fits, most)) in
+          others_more (g.C.Instructions.program c.args.code.now) steps so_far.0 more.0 (held_in c.args.self.now) old (held_in c.make_part-else-waiting-lt-MANY.new.self)
+          c.args.sent.now.items c.parts.sent.items c.make_part-else-waiting-lt-MANY.new.sent.items so_far.1 more.1;
+      len = (let before = inv.len in let now = c.make_part-else-waiting-lt-MANY.ensures.made_len in omega arith);
+      capacity = c.make_part-else-waiting-lt-MANY.ensures.capacity ∙ inv.capacity;
+      least = (let before = inv.least in let now = c.make_part-else-waiting-lt-MANY.ensures.least in omega arith);
       sound = c.make_part-else-waiting-lt-MANY.ensures.sound;
       shape = c.make_part-else-waiting-lt-MANY.ensures.shape ∙ inv.shape;
       room = omega (arith, room, len, capacity, fits);
       sent_room = λ no. let sent_room = inv.sent_room no in omega (arith, sent_room, sent_len, sent_capacity, fits);
     }
+
+pub returns-then-not-make_part-clause-others : goal.returns-then-not-make_part-clause-others
+returns-then-not-make_part-clause-others g c = λ holds steps most.
+    let inv = c.parts.invariant in
+    let old : Holding = held_in c.parts.self in
+    let so_far = inv.others holds steps most in
+    let counted : old.made + c.parts.left ≡ c.args.self.now.queue.gone + c.args.events = inv.gone in
+    let fits : c.min-part.result ≤ c.parts.left = grind (arith, common_steps) in
+    let more = c.make_part.ensures.others holds steps (omega (arith, counted, fits, most)) in
+    others_more (g.C.Instructions.program c.args.code.now) steps so_far.0 more.0 (held_in c.args.self.now) old (held_in c.make_part.new.self)
+    c.args.sent.now.items c.parts.sent.items c.make_part.new.sent.items so_far.1 more.1
+
+pub returns-then-not-make_part-2-clause-others : goal.returns-then-not-make_part-2-clause-others
+returns-then-not-make_part-2-clause-others g c = λ holds steps most.
+    let inv = c.parts.invariant in
+    let old : Holding = held_in c.parts.self in
+    let so_far = inv.others holds steps most in
+    let counted : old.made + c.parts.left ≡ c.args.self.now.queue.gone + c.args.events = inv.gone in
+    let fits : c.min-part-else-waiting-lt-MANY.result ≤ c.parts.left = grind (arith, common_steps) in
+    let more = c.make_part-else-waiting-lt-MANY.ensures.others holds steps (omega (arith, counted, fits, most)) in
+    others_more (g.C.Instructions.program c.args.code.now) steps so_far.0 more.0 (held_in c.args.self.now) old (held_in c.make_part-else-waiting-lt-MANY.new.self)
+    c.args.sent.now.items c.parts.sent.items c.make_part-else-waiting-lt-MANY.new.sent.items so_far.1 more.1

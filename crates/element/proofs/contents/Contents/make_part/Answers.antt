@@ -6,8 +6,10 @@ use Rattle.element.specs.declared.lane.Stepped.TheVariants.{Did}
 use Rattle.element.specs.Holding.{Holding, held_in}
 use Rattle.element.specs.Acts.{Acts}
 use Rattle.element.specs.Steps.{SendsEvents}
+use Rattle.element.specs.ByDepth.{SendsOthers}
 use Rattle.element.proofs.Stepping.{sound_as, shape_as}
 use Rattle.element.proofs.Turns.{oldest, oldest_acts, one_event_more, fewer_by_one}
+use Rattle.element.proofs.Aside.{one_other_more}
 use Rattle.element.proofs.contents.Contents.make_part.Goals as goal
 
 pub events-preserved : goal.events-preserved
@@ -43,6 +45,13 @@ events-preserved g c =
           let few : old.made < steps = omega arith in
           let made = inv.made steps most in
           (suc made.0, one_event_more p steps made.0 start old new t first before after made.1 inv.sound some oldest_is few acts);
+      others = λ holds steps most.
+          let few : old.made < steps = omega arith in
+          let made = inv.others holds steps most in (
+            suc made.0,
+            one_other_more p steps made.0 start old new t first before after made.1 inv.sound some oldest_is few acts (c.acts_at_once.ensures.held holds yes),
+          );
+      least = (let l = inv.least in omega arith);
       sound = sound_as p old 0 t before inv.sound some (oldest old t oldest_is) Did new after at;
       shape = shape_as p old 0 t before inv.sound some (oldest old t oldest_is) Did new after at ∙ inv.shape;
       len = omega arith;
@@ -62,4 +71,17 @@ returns-then-not-acts_at_once-clause-exact g c = λ steps most.
       made.0,
       subst (λ (ts : List Token). SendsEvents p steps made.0 start first (held_in c.acts_at_once.new.self) ts) (sym (c.acts_at_once.ensures.unsent no))
           (subst (λ (h : Holding). SendsEvents p steps made.0 start first h c.events.sent.items) (sym (c.acts_at_once.ensures.not no)) made.1),
+    )
+
+pub returns-then-not-acts_at_once-clause-others : goal.returns-then-not-acts_at_once-clause-others
+returns-then-not-acts_at_once-clause-others g c = λ holds steps most.
+    let p = g.C.Instructions.program c.args.code.now in
+    let start : Holding = held_in c.args.self.now in
+    let first = c.args.sent.now.items in
+    let no : c.acts_at_once.result ≡ false = grind (arith, common_steps) in
+    let begun : c.gone-gone.result ≡ start.made = c.gone-gone.ensures in
+    let made = c.events.invariant.others holds steps (omega (arith, begun, most)) in (
+      made.0,
+      subst (λ (ts : List Token). SendsOthers p steps made.0 start first (held_in c.acts_at_once.new.self) ts) (sym (c.acts_at_once.ensures.unsent no))
+          (subst (λ (h : Holding). SendsOthers p steps made.0 start first h c.events.sent.items) (sym (c.acts_at_once.ensures.not no)) made.1),
     )

@@ -3,6 +3,7 @@ use Rattle.std.specs.Prelude.{vec_len}
 use Rattle.std.specs.Vec.{vec_capacity}
 use Rattle.element.specs.Holding.{held_in, shape_of, IsSoundLane}
 use Rattle.element.specs.Steps.{SendsEvents}
+use Rattle.element.specs.ByDepth.{SendsOthers}
 use Rattle.element.proofs.contents.Contents.make_part.Given as goal
 
 abbrev pub invariant-events : goal.invariant-events
@@ -12,6 +13,9 @@ invariant-events g l = record {
   many : g.W.Waiting.MANY ≡ true → l.end ≤ l.gone + length l.self.queue.items;
   made : (steps : ℕ) → l.end ≤ steps → (made : ℕ) × SendsEvents (g.C.Instructions.program l.code) steps made (held_in l.fn.self) l.fn.sent.items
       (held_in l.self) l.sent.items;
+  others : g.T.Company.HOLDS ≡ true → (steps : ℕ) → l.end ≤ steps → (made : ℕ) × SendsOthers (g.C.Instructions.program l.code) steps made
+      (held_in l.fn.self) l.fn.sent.items (held_in l.self) l.sent.items;
+  least : l.fn.self.queue.gone ≤ l.gone;
   sound : IsSoundLane (g.C.Instructions.program l.code) (held_in l.self);
   shape : shape_of l.self ≡ shape_of l.fn.self;
   len : length l.self.queue.items + 2 * (l.end - l.gone) ≤ length l.fn.self.queue.items + 2 * l.fn.events;
