@@ -9,6 +9,7 @@ pub mod Starting
 pub mod Playing
 pub mod Turning
 pub mod OneLane
+pub mod OneByDepth
 pub mod Ending
 pub mod Sums
 pub mod Pictures

@@ -107,7 +107,7 @@ unlisted true before made other list quiet is = absurd (let no : ⊥ = cc in no)
 unlisted false before made other list quiet is = is
 
 module _ (g : Setting) where
-  settled : (next : Holding) → (let s : State = record { setting = g; lanes = delivered [] (next ∷ []) } in s) ≡ alone g next
+  pub settled : (next : Holding) → (let s : State = record { setting = g; lanes = delivered [] (next ∷ []) } in s) ≡ alone g next
   settled next = ap (λ (l : List Holding). let s : State = record { setting = g; lanes = l } in s) (delivered_none (next ∷ []))
 
   -- an event of the lane

@@ -1,7 +1,7 @@
 -- Runs in turn in which element 0 holds requests back.
 use Rattle.std.proofs.Common.{◌≡◌, refl, sym, ◌∙◌, ap, subst, ℕ, zero, suc, ◌+◌, ◌-◌, ◌/◌, ◌%◌, ◌<◌, ◌≤◌, ◌⊎◌, inl, inr, Bool, true, false, List, [], ◌∷◌, ◌++◌}
 use Rattle.std.proofs.Common.{length, drop, Option, Some, None, arith, append_assoc, mod-eq_of_lt}
-use Rattle.std.specs.Prelude.{slice_get, if◌then◌else◌}
+use Rattle.std.specs.Prelude.{slice_get}
 use native.Mathlib.Nat.{mod-eq-sub-mod}
 use Rattle.std.proofs.Math.Nat.{zero-mod}
 use Rattle.std.proofs.lemmas.List.{length-append, append-nil}
@@ -10,6 +10,7 @@ use Rattle.semantics.specs.Machine.{Events}
 use Rattle.element.specs.declared.lane.Stepped.{Stepped}
 use Rattle.element.specs.declared.lane.Stepped.TheVariants.{Idle, Did, Clash, Stuck, Memory}
 use Rattle.element.specs.Holding.{Holding}
+use Rattle.element.specs.Requests.{held_back}
 use Rattle.schedule.specs.declared.halt.Halt.{Halt}
 use Rattle.schedule.specs.declared.take.Take.{Take}
 use Rattle.schedule.specs.declared.take.Take.TheVariants.{Oldest, Depth}
@@ -18,18 +19,9 @@ use Rattle.schedule.specs.Reported.{out_in}
 use Rattle.schedule.specs.State.{State, tokens_in}
 use Rattle.schedule.specs.Steps.{Steps, IsIdle}
 use Rattle.schedule.specs.Runs.{HasToken, Then, Plays, rounds_of, steps_over}
-use Rattle.schedule.specs.Turns.{is_for_manager, held_back, first_queue, others, free_frames, AreFew, MayTakeFirst, MayTake, MayPass, Keeps, TakesNone, TakesTurn}
-use Rattle.schedule.specs.Turns.{PlaysTurns, AreInTurn, PlaysTaking}
+use Rattle.schedule.specs.Turns.{first_queue, others, free_frames, AreFew, MayTakeFirst, MayTake, MayPass, Keeps, TakesNone, TakesTurn}
+use Rattle.schedule.specs.Turns.{PlaysTurns, AreInTurn, Leads, PlaysTaking}
 use Rattle.schedule.proofs.Playing.{Moves, moves, tokens_none, setting_stays}
-
--- WHAT IS HELD BACK
-pub held_within : (q : List Token) → held_back q ≤ length q
-held_within [] = omega arith
-held_within (t ∷ ts) = by_case (is_for_manager t.to) (held_within ts)
-  where
-    by_case : (b : Bool) → held_back ts ≤ length ts → (if b then suc (held_back ts) else 0) ≤ length (t ∷ ts)
-    by_case true rest = omega arith
-    by_case false rest = omega arith
 
 -- WHAT ELSE THERE IS
 pub first_is : (lanes : List Holding) (h : Holding) → slice_get lanes 0 ≡ Some h → first_queue lanes ≡ h.queue
@@ -86,11 +78,6 @@ others_take s zero some = absurd (omega arith)
 others_take s (suc e) some = refl
 
 -- RUNS
-abbrev pub Leads : ℕ → State → Events → ℕ → State → Type 0
-Leads n old made k new =
-    (turns : List (ℕ × Option ℕ)) (last : State) (halt : Halt) (later : Events) → AreInTurn n (k % n) turns → PlaysTurns turns new last halt later
-    → (all : List (ℕ × Option ℕ)) × AreInTurn n 0 all × PlaysTurns all old last halt (made ++ later)
-
 pub leads_none : (n : ℕ) (s : State) → Leads n s [] 0 s
 leads_none n s = λ turns last halt later at plays. (turns, subst (λ (k : ℕ). AreInTurn n k turns) (zero-mod n) at, plays)
 

@@ -1,11 +1,11 @@
 -- Runs in turn, by the order in which the elements take their tokens.
 use Rattle.std.specs.Prelude.{◌≡◌, ℕ, zero, suc, ◌+◌, ◌-◌, ◌*◌, ◌%◌, ◌<◌, Bool, true, false, ◌⊎◌, List, [], ◌∷◌, ◌++◌, length, Option, Some, None, if◌then◌else◌, ⊤}
-use Rattle.tags.specs.declared.token.To.{To}
 use Rattle.tags.specs.declared.token.Token.{Token}
 use Rattle.semantics.specs.Machine.{Events}
 use Rattle.element.specs.declared.lane.Stepped.{Stepped}
 use Rattle.element.specs.declared.lane.Stepped.TheVariants as stepped
 use Rattle.element.specs.Holding.{Holding}
+use Rattle.element.specs.Requests.{held_back}
 use Rattle.schedule.specs.declared.halt.Halt.{Halt}
 use Rattle.schedule.specs.declared.take.Take.{Take}
 use Rattle.schedule.specs.declared.take.Take.TheVariants.{Oldest, Depth}
@@ -17,19 +17,6 @@ use Rattle.schedule.specs.Runs.{Advances, Then, Plays, rounds_of}
 -- THE ORDER THAT NEEDS FEW FRAMES. Each element but element 0 takes its oldest token. Element 0 holds back the requests for frames that its
 -- queue begins with. Where few other tokens are left in the machine it takes one of them, any; else it takes its oldest other token, and where
 -- it has no other it is passed over.
-
-abbrev pub is_for_manager : To → Bool
-is_for_manager (To.Instr f ip p) = false
-is_for_manager (To.Fetch x) = false
-is_for_manager (To.Store x v) = false
-is_for_manager To.Manager = true
-is_for_manager (To.Release f) = false
-is_for_manager (To.Host p) = false
-
--- how many requests for frames a queue begins with
-abbrev pub held_back : List Token → ℕ
-held_back [] = 0
-held_back (t ∷ ts) = if is_for_manager t.to then suc (held_back ts) else 0
 
 -- the queue of element 0
 abbrev pub first_queue : List Holding → List Token
@@ -98,6 +85,12 @@ PlaysTurns (t ∷ ts) s last halt evs =
 abbrev pub AreInTurn : ℕ → ℕ → List (ℕ × Option ℕ) → Type 0
 AreInTurn n k [] = ⊤
 AreInTurn n k (t ∷ ts) = (t.0 ≡ k) × AreInTurn n (suc k % n) ts
+
+-- What comes of the second state, from the turn of element k on, comes of the first one after these events.
+abbrev pub Leads : ℕ → State → Events → ℕ → State → Type 0
+Leads n old made k new =
+    (turns : List (ℕ × Option ℕ)) (last : State) (halt : Halt) (later : Events) → AreInTurn n (k % n) turns → PlaysTurns turns new last halt later
+    → (all : List (ℕ × Option ℕ)) × AreInTurn n 0 all × PlaysTurns all old last halt (made ++ later)
 
 -- In turn, by the order in which the elements take their tokens.
 abbrev pub PlaysTaking : Take → State → State → Halt → Events → Type 0

@@ -71,7 +71,7 @@ impl<'m, C: MainCode, A: Allocator> Elements<'m, C, A> {
     }
 
     // Whether no token is on its way. One element sends none, so there it is always so.
-    fn is_settled(&self) -> bool
+    pub(crate) fn is_settled(&self) -> bool
         ensures sent { result ≡ true → self.now.sent.items ≡ [] }
         ensures arrived { result ≡ true → self.now.arrived ≡ 0 }
     {

@@ -7,7 +7,7 @@ pub mod config;
 mod counting;
 mod delivery;
 mod elements;
-mod grant_order;
+mod grants;
 pub mod halt;
 mod locating;
 pub mod log;
@@ -20,3 +20,5 @@ pub mod setup;
 pub mod shape;
 pub mod take;
 mod turns;
+
+pub use counting::frames_out;

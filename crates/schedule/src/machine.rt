@@ -21,7 +21,7 @@ ghost use Rattle.schedule.specs.Turns.{PlaysTaking};
 use crate::config::{Config, StartFault};
 use crate::delivery::receive;
 use crate::elements::Elements;
-use crate::grant_order::GrantOrder;
+use crate::grants::Grants;
 use crate::halt::Halt;
 use crate::log::{EventLog, FullLog, Log, NoLog};
 use crate::main_code::MainCode;
@@ -338,8 +338,8 @@ impl<'m, C: MainCode, A: Allocator, L: Log> Machine<'m, C, A, L> {
         ensures setting { self.new.state.setting ≡ self.old.state.setting }
         ensures cell { NamesCell self.new.state.setting.program result }
     {
-        let order = self.alloc.clone().ok().map(GrantOrder::new);
-        self.elements.play_taking(take, order, &mut self.log)
+        let grants = Grants::new(&self.alloc).ok();
+        self.elements.play_taking(take, grants, &mut self.log)
     }
 
     /// What the machine holds and what happened, with the end of a run that halted so; of a machine that lists no events all but

@@ -2,46 +2,28 @@
 
 ghost use Rattle.std.specs.Prelude.{◌≡◌, ℕ, ◌<◌, ◌≤◌, ◌⊎◌, List, Option, [], length, Some, true, false, IfSome, IfNone, map, ◌-◌, ◌/◌};
 ghost use Rattle.semantics.specs.Machine.{Events};
-ghost use Rattle.schedule.specs.State.{state_of, IsWell};
+ghost use Rattle.schedule.specs.State.{State, state_of, IsWell};
+ghost use Rattle.schedule.specs.Runs.{steps_over};
 ghost use Rattle.schedule.specs.Steps.{logged};
 ghost use Rattle.element.specs.Holding.{held_of};
 ghost use Rattle.schedule.specs.Setting.{Setting};
-ghost use Rattle.schedule.specs.Turns.{is_for_manager, held_back, first_queue, others, free_frames, AreFew, MayTake, MayPass, TakesTurn, PlaysTurns, PlaysTaking, AreInTurn};
+ghost use Rattle.element.specs.Requests.{held_back};
+ghost use Rattle.schedule.specs.Turns.{first_queue, others, free_frames, AreFew, MayTake, MayPass, TakesTurn, PlaysTurns, PlaysTaking, AreInTurn, Leads};
 
 use crate::counting::frames_out;
 use crate::elements::{Elements, Order};
-use crate::grant_order::GrantOrder;
+use crate::grants::Grants;
 use crate::halt::Halt;
 use crate::log::{EventLog, Log};
 use crate::main_code::MainCode;
 use crate::take::Take;
+use element::grant_order::GrantOrder;
 use element::instructions::Instructions;
 use element::lane::Lane;
-use packed::token::PackedToken;
+use element::requests::requests_before;
 use std::alloc::Allocator;
-use tags::token::{Cont, FrameId, To, Word};
+use tags::token::Token;
 use token_queue::queue::TokenQueue;
-
-// Whether the token asks for a frame.
-#[inline(always)]
-fn is_request(token: &PackedToken) -> bool
-    ensures { result ≡ is_for_manager token.now.to }
-{
-    matches!(token.to(), To::Manager)
-}
-
-// How many requests for frames a queue begins with.
-fn requests_before<A: Allocator>(queue: &TokenQueue<A>) -> usize
-    ensures exact { result ≡ held_back queue.now.items }
-    ensures within { result ≤ length queue.now.items }
-{
-    for at in 0..queue.len() {
-        if !is_request(&queue.packed(at)) {
-            return at;
-        }
-    }
-    queue.len()
-}
 
 // How many tokens are few, where so many frames are free: none on one element, and on several up to one for each 16 frames.
 fn few(elements: u32, free: u64) -> u64
@@ -112,12 +94,12 @@ impl<'m, C: MainCode, A: Allocator> Elements<'m, C, A> {
         ensures none { IfNone result (MayPass (state_of C.program C.width self.now) 0) }
     {
         let queue = self.lanes[0].queue();
-        let held = requests_before(queue);
+        let held = requests_before(queue, 0);
         if held == 0 {
             return Some(0);
         }
         if self.are_few(held) {
-            return Some(order.best(queue, held));
+            return Some(order.best_of(queue, held));
         }
         if held == queue.len() {
             return None;
@@ -125,38 +107,23 @@ impl<'m, C: MainCode, A: Allocator> Elements<'m, C, A> {
         Some(held)
     }
 
-    // Who asks by the token of element 0 at this place, if it is a request.
-    fn asker(&self, at: usize) -> Option<Cont>
+    // The token of element 0 at this place, if there is one.
+    fn first_token(&self, at: usize) -> Option<Token>
         requires { IsWell C.program C.width self.now }
     {
         let queue = self.lanes[0].queue();
         if queue.len() <= at {
             return None;
         }
-        let token = queue.get(at);
-        match (token.to, token.word) {
-            (To::Manager, Word::Back(asker)) => Some(asker),
-            _ => None,
-        }
+        Some(queue.get(at))
     }
 
-    // The frame that the last event of element 0 gave to this one, if it gave one.
-    fn given(&self, asker: Cont) -> Option<FrameId>
+    // Notes the frame that the token got which element 0 took last, if it asked for one.
+    fn note_frame(&self, taken: Option<Token>, order: &mut GrantOrder<A>)
         requires { IsWell C.program C.width self.now }
     {
-        let answer = match self.sent.last() {
-            Some(token) => token.unpack(),
-            None => {
-                let queue = self.lanes[0].queue();
-                queue.get(queue.len().checked_sub(1)?)
-            }
-        };
-        let Cont::Frame { frame, ip, port } = asker else {
-            return None;
-        };
-        match answer.word {
-            Word::Frame(given) => { (answer.to == To::Instr { frame, ip, port }).then_some(given) }
-            _ => None,
+        if let Some(taken) = taken {
+            self.lanes[0].note_frame(&taken, &self.sent, order);
         }
     }
 
@@ -178,13 +145,9 @@ impl<'m, C: MainCode, A: Allocator> Elements<'m, C, A> {
         let Some(pick) = self.choose(order) else {
             return None;
         };
-        let asker = self.asker(pick);
+        let taken = self.first_token(pick);
         let halt = self.advance::<L, ()>(Order::InTurn, 0, pick as u64, log);
-        if let Some(asker) = asker {
-            if let Some(frame) = self.given(asker) {
-                order.note(self.shape.code, asker, frame);
-            }
-        }
+        self.note_frame(taken, order);
         halt
     }
 
@@ -192,7 +155,7 @@ impl<'m, C: MainCode, A: Allocator> Elements<'m, C, A> {
     fn take_turn<L: Log>(
         &mut self,
         element: u32,
-        order: &mut Option<GrantOrder<A>>,
+        grants: &mut Option<Grants<A>>,
         log: &mut EventLog<A, L>,
     ) -> Option<Halt>
     where
@@ -208,9 +171,9 @@ impl<'m, C: MainCode, A: Allocator> Elements<'m, C, A> {
         }
         let frames = (self.shape.elements * self.shape.frames) as usize;
         if self.settle().is_ok() {
-            if let Some(order) = order {
-                if order.make_room(frames).is_ok() {
-                    return self.take_first(order, log);
+            if let Some(grants) = grants {
+                if grants.order.make_room(frames).is_ok() {
+                    return self.take_first(&mut grants.order, log);
                 }
             }
         }
@@ -222,7 +185,7 @@ impl<'m, C: MainCode, A: Allocator> Elements<'m, C, A> {
     /// holds back the requests for frames that its queue begins with, and takes one of these only where few other tokens are left.
     pub fn play_by_depth<L: Log>(
         &mut self,
-        order: &mut Option<GrantOrder<A>>,
+        grants: &mut Option<Grants<A>>,
         log: &mut EventLog<A, L>,
     ) -> Halt
     where
@@ -235,7 +198,7 @@ impl<'m, C: MainCode, A: Allocator> Elements<'m, C, A> {
     {
         'passes: loop {
             for element in 0..self.shape.elements {
-                match self.take_turn(element, order, log) {
+                match self.take_turn(element, grants, log) {
                     None => {}
                     Some(halt) => return halt,
                 }
@@ -243,11 +206,106 @@ impl<'m, C: MainCode, A: Allocator> Elements<'m, C, A> {
         }
     }
 
+    // Lets the one element make as many events at once as it has room for, if no token is on its way.
+    #[tactic(auto, using(crate::proofs::Turning::leads_none))]
+    fn run_by_depth(&mut self, grants: &mut Option<Grants<A>>)
+    where
+        A: Clone,
+        requires well { IsWell C.program C.width self.old }
+        requires one { self.old.shape.elements ≡ 1 }
+        ensures well { IsWell C.program C.width self.new }
+        ensures shape { self.new.shape ≡ self.old.shape }
+        ensures exact { (made : Events) × Leads 1 (state_of C.program C.width self.old) made 0 (state_of C.program C.width self.new) }
+        ensures fewer { steps_over (state_of C.program C.width self.new) ≤ steps_over (state_of C.program C.width self.old) }
+    {
+        if !self.is_settled() {
+            return;
+        }
+        let frames = (self.shape.elements * self.shape.frames) as usize;
+        let Some(grants) = grants else {
+            return;
+        };
+        if grants.order.make_room(frames).is_err() {
+            return;
+        }
+        grants.aside.clear();
+        let lane = &mut self.lanes[0];
+        lane.turn_by_depth(&mut grants.order, &mut grants.aside, &mut self.sent);
+    }
+
+    // Makes as many events as the one element makes at once, and then what a turn has, and answers whether the run halts there.
+    fn take_turns<L: Log>(
+        &mut self,
+        grants: &mut Option<Grants<A>>,
+        log: &mut EventLog<A, L>,
+    ) -> Option<Halt>
+    where
+        A: Clone,
+        requires well { IsWell C.program C.width self.old }
+        requires one { self.old.shape.elements ≡ 1 }
+        ensures well { IsWell C.program C.width self.new }
+        ensures exact { (before : Events) × (mid : State) × Leads 1 (state_of C.program C.width self.old) before 0 mid
+            × (steps_over mid ≤ steps_over (state_of C.program C.width self.old))
+            × (mid.setting ≡ (state_of C.program C.width self.old).setting) × (turn : Option ℕ) × (events : Events)
+            × TakesTurn mid 0 turn (state_of C.program C.width self.new) events result
+            × (log.new.events.items ≡ logged L.KEEPS_EVENTS log.old.events.items events) }
+    {
+        self.run_by_depth(grants);
+        self.take_turn(0, grants, log)
+    }
+
+    // The same as `play_by_depth`, of one element, where no event is listed: it is always in turn.
+    fn play_alone_by_depth<L: Log>(
+        &mut self,
+        grants: &mut Option<Grants<A>>,
+        log: &mut EventLog<A, L>,
+    ) -> Halt
+    where
+        A: Clone,
+        requires well { IsWell C.program C.width self.old }
+        requires one { self.old.shape.elements ≡ 1 }
+        requires quiet { L.KEEPS_EVENTS ≡ false }
+        ensures well { IsWell C.program C.width self.new }
+        ensures exact { (turns : List (ℕ × Option ℕ)) × (events : Events) × AreInTurn self.old.shape.elements 0 turns
+            × PlaysTurns turns (state_of C.program C.width self.old) (state_of C.program C.width self.new) result events
+            × (log.new.events.items ≡ logged L.KEEPS_EVENTS log.old.events.items events) }
+    {
+        'turns: loop {
+            match self.take_turns(grants, log) {
+                None => {}
+                Some(halt) => return halt,
+            }
+        }
+    }
+
+    /// Makes one step after another, the elements in turn, and answers why it makes no more: as `play_by_depth`.
+    fn play_depth<L: Log>(
+        &mut self,
+        grants: &mut Option<Grants<A>>,
+        log: &mut EventLog<A, L>,
+    ) -> Halt
+    where
+        A: Clone,
+        requires { IsWell C.program C.width self.old }
+        ensures well { IsWell C.program C.width self.new }
+        ensures exact { (turns : List (ℕ × Option ℕ)) × (events : Events) × AreInTurn self.old.shape.elements 0 turns
+            × PlaysTurns turns (state_of C.program C.width self.old) (state_of C.program C.width self.new) result events
+            × (log.new.events.items ≡ logged L.KEEPS_EVENTS log.old.events.items events) }
+    {
+        if self.shape.elements != 1 {
+            self.play_by_depth(grants, log)
+        } else if L::KEEPS_EVENTS {
+            self.play_by_depth(grants, log)
+        } else {
+            self.play_alone_by_depth(grants, log)
+        }
+    }
+
     /// Makes one step after another, the elements in turn, in the given order of their tokens, and answers why it makes no more.
     pub fn play_taking<L: Log>(
         &mut self,
         take: Take,
-        order: Option<GrantOrder<A>>,
+        grants: Option<Grants<A>>,
         log: &mut EventLog<A, L>,
     ) -> Halt
     where
@@ -260,8 +318,8 @@ impl<'m, C: MainCode, A: Allocator> Elements<'m, C, A> {
         match take {
             Take::Oldest => self.play_in_turn(log),
             Take::Depth => {
-                let mut order = order;
-                self.play_by_depth(&mut order, log)
+                let mut grants = grants;
+                self.play_depth(&mut grants, log)
             }
         }
     }

@@ -3,7 +3,7 @@ use Rattle.std.proofs.lemmas.List.{length-map, drop_all}
 use Rattle.tags.specs.declared.token.Token.{Token}
 use Rattle.element.specs.Holding.{Holding, held_of}
 use Rattle.schedule.specs.State.{tokens_in}
-use Rattle.schedule.specs.Turns.{held_back}
+use Rattle.element.specs.Requests.{held_back}
 use Rattle.schedule.proofs.Memory.{held_at}
 use Rattle.schedule.proofs.Turning.{first_is, others_first, tokens_drop}
 use Rattle.schedule.proofs.turns.are_at_most.Goals as goal

@@ -1,5 +1,5 @@
 use Rattle.std.proofs.Common.{arith}
-use Rattle.schedule.proofs.Turning.{held_within}
+use Rattle.element.proofs.HeldBack.{held_within}
 use Rattle.schedule.proofs.turns.besides.Goals as goal
 
 pub overflow_sub-result : goal.overflow_sub-result

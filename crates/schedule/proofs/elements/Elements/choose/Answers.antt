@@ -2,7 +2,8 @@ use Rattle.std.proofs.Common.{◌∙◌, sym, ap, subst, List, ◌<◌, length, 
 use Rattle.tags.specs.declared.token.Token.{Token}
 use Rattle.element.specs.Holding.{Holding, held_of}
 use Rattle.schedule.specs.State.{state_of}
-use Rattle.schedule.specs.Turns.{AreFew, held_back, first_queue}
+use Rattle.element.specs.Requests.{held_back}
+use Rattle.schedule.specs.Turns.{AreFew, first_queue}
 use Rattle.schedule.proofs.Memory.{lane_there, none_arriving}
 use Rattle.schedule.proofs.Turning.{first_is, choice_oldest, choice_request, choice_other, choice_none}
 use Rattle.schedule.proofs.elements.Elements.choose.Goals as goal
@@ -35,7 +36,7 @@ returns-then-are_few-clause-some g c =
     let q = first_is s.lanes (held_of x) there ∙ sym c.queue-queue.ensures in
     let few = subst (λ (l : List Holding). AreFew s.setting l) (sym (none_arriving m.lanes.items m.sent.items m.arrived c.requires.sent c.requires.arrived))
     (c.are_few.ensures.yes c.if-are_few.true) in
-    inr (choice_request s c.queue-queue.result.now.items c.requests_before-held.result c.best.result q c.requests_before-held.ensures.exact c.best.ensures few)
+    inr (choice_request s c.queue-queue.result.now.items c.requests_before-held.result c.best_of.result q c.requests_before-held.ensures.exact c.best_of.ensures few)
 
 pub returns-then-held-len-clause-none : goal.returns-then-held-len-clause-none
 returns-then-held-len-clause-none g c =

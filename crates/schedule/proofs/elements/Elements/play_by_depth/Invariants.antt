@@ -3,7 +3,8 @@ use Rattle.semantics.specs.Machine.{Events}
 use Rattle.schedule.specs.State.{state_of, IsWell}
 use Rattle.schedule.specs.Steps.{logged}
 use Rattle.schedule.specs.Runs.{steps_over}
-use Rattle.schedule.proofs.Turning.{Leads, Passes}
+use Rattle.schedule.specs.Turns.{Leads}
+use Rattle.schedule.proofs.Turning.{Passes}
 use Rattle.schedule.proofs.elements.Elements.play_by_depth.Given as goal
 
 abbrev pub invariant-passes : goal.invariant-passes

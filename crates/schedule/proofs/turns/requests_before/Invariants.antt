@@ -1,6 +1,0 @@
-use Rattle.std.proofs.Common.{◌≡◌, ◌+◌, drop}
-use Rattle.schedule.specs.Turns.{held_back}
-use Rattle.schedule.proofs.turns.requests_before.Given as goal
-
-abbrev pub invariant-loop-at : goal.invariant-loop-at
-invariant-loop-at g l = held_back l.queue.items ≡ l.at + held_back (drop l.at l.queue.items)
