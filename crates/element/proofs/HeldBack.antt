@@ -1,5 +1,5 @@
 -- Requests that a queue begins with.
-use Rattle.std.proofs.Common.{◌≡◌, refl, ℕ, zero, suc, ◌+◌, ◌≤◌, Bool, true, false, List, [], ◌∷◌, length, drop, arith}
+use Rattle.std.proofs.Common.{◌≡◌, ℕ, zero, suc, ◌+◌, ◌≤◌, Bool, true, false, List, [], ◌∷◌, length, drop, arith}
 use Rattle.std.specs.Prelude.{if◌then◌else◌}
 use Rattle.tags.specs.declared.token.Token.{Token}
 use Rattle.element.specs.Requests.{is_for_manager, held_back}

@@ -1,20 +1,18 @@
 -- A run of the one element that holds requests back.
 use Rattle.std.proofs.Common.{◌≡◌, refl, sym, ◌∙◌, ap, subst, ℕ, zero, suc, ◌+◌, ◌-◌, ◌<◌, ◌≤◌, inl, inr, List, [], ◌∷◌, ◌++◌, length}
-use Rattle.std.proofs.Common.{Option, Some, None, Bool, true, false, drop, arith, append_assoc}
+use Rattle.std.proofs.Common.{Some, None, Bool, true, false, drop, arith, append_assoc}
 use Rattle.std.proofs.Math.Nat.{zero-mod}
-use Rattle.tags.specs.declared.token.Token.{Token}
 use Rattle.semantics.specs.Program.{Program}
 use Rattle.semantics.specs.Machine.{Events}
 use Rattle.element.specs.declared.lane.Stepped.TheVariants.{Did}
-use Rattle.element.specs.Holding.{Holding, LaneView, Fixed, fixed_of, IsSoundLane}
+use Rattle.element.specs.Holding.{Holding, LaneView, fixed_of, IsSoundLane}
 use Rattle.element.specs.Steps as one
 use Rattle.element.specs.Requests.{held_back}
 use Rattle.element.specs.ByDepth.{TakesByDepth, MakesByDepth}
 use Rattle.schedule.specs.Setting.{Setting}
-use Rattle.schedule.specs.State.{State, RunsAs, IsSoundState, tokens_in, delivered}
+use Rattle.schedule.specs.State.{State, RunsAs, IsSoundState, tokens_in}
 use Rattle.schedule.specs.Steps.{Steps, logged}
-use Rattle.schedule.specs.Runs.{steps_in, steps_over}
-use Rattle.schedule.specs.declared.halt.Halt.{Halt}
+use Rattle.schedule.specs.Runs.{steps_over}
 use Rattle.schedule.specs.Turns.{others, AreFew, MayTake, TakesTurn, PlaysTurns, AreInTurn, Leads}
 use Rattle.schedule.proofs.Stepping.{answered}
 use Rattle.schedule.proofs.OneLane.{alone, settled}

@@ -1,9 +1,9 @@
-use Rattle.std.proofs.Common.{◌≡◌, ◌∙◌, sym, ap, subst, ℕ, ◌<◌, List, [], length, arith}
+use Rattle.std.proofs.Common.{sym, subst, ℕ, ◌<◌, List, [], length}
 use Rattle.tags.specs.declared.token.Token.{Token}
 use Rattle.element.specs.Acts.{Acts}
 use Rattle.element.specs.Holding.{Holding, held_in}
 use Rattle.element.specs.Steps.{Does}
-use Rattle.element.specs.ByDepth.{TakesByDepth, AreAside, whole, offered}
+use Rattle.element.specs.ByDepth.{TakesByDepth, AreAside, whole}
 use Rattle.element.proofs.Aside.{grant_acts}
 use Rattle.element.proofs.contents.Contents.grants_first.Goals as goal
 

@@ -1,4 +1,4 @@
-use Rattle.std.proofs.Common.{◌≡◌, sym, subst, List, [], ◌∷◌, ◌++◌}
+use Rattle.std.proofs.Common.{sym, subst, List, [], ◌∷◌, ◌++◌}
 use Rattle.tags.specs.declared.token.Token.{Token}
 use Rattle.element.specs.Holding.{Holding, held_in}
 use Rattle.element.specs.ByDepth.{AreAside}

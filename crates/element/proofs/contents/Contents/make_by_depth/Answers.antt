@@ -1,6 +1,6 @@
-use Rattle.std.proofs.Common.{◌≡◌, sym, subst, ℕ, ◌+◌, ◌≤◌, arith}
+use Rattle.std.proofs.Common.{sym, subst, arith}
 use Rattle.element.specs.Holding.{Holding, held_in, IsSoundLane}
-use Rattle.element.specs.ByDepth.{MakesByDepth, AreAside, whole}
+use Rattle.element.specs.ByDepth.{MakesByDepth, whole}
 use Rattle.element.proofs.Aside.{whole_none, none_aside}
 use Rattle.element.proofs.contents.Contents.make_by_depth.Goals as goal
 

@@ -1,4 +1,4 @@
-use Rattle.std.proofs.Common.{◌≡◌, refl, ◌∙◌, ℕ}
+use Rattle.std.proofs.Common.{◌∙◌}
 use Rattle.element.specs.Holding.{held_in}
 use Rattle.element.specs.ByDepth.{whole}
 use Rattle.element.proofs.Aside.{by_depth_more}

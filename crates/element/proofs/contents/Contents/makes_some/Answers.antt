@@ -1,4 +1,4 @@
-use Rattle.std.proofs.Common.{◌≡◌, refl, ◌∙◌, ◌+◌, ◌<◌, length, arith}
+use Rattle.std.proofs.Common.{◌≡◌, refl, ◌∙◌, ◌+◌, length, arith}
 use Rattle.std.specs.Prelude.{vec_len}
 use Rattle.element.specs.Holding.{Holding, held_in}
 use Rattle.element.specs.ByDepth.{whole}

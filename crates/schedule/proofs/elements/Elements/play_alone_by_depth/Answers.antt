@@ -1,7 +1,6 @@
-use Rattle.std.proofs.Common.{◌≡◌, refl, sym, ◌∙◌, ap, subst, ℕ, ◌+◌, ◌<◌, ◌≤◌, List, Option, [], ◌++◌, length, arith}
-use Rattle.semantics.specs.Machine.{Events}
+use Rattle.std.proofs.Common.{◌≡◌, refl, sym, ◌∙◌, ap, subst, ℕ, ◌+◌, ◌<◌, ◌≤◌, [], ◌++◌, length, arith}
 use Rattle.schedule.specs.Setting.{Setting}
-use Rattle.schedule.specs.State.{State, state_of}
+use Rattle.schedule.specs.State.{state_of}
 use Rattle.schedule.specs.Runs.{steps_over}
 use Rattle.schedule.specs.Turns.{AreInTurn}
 use Rattle.schedule.proofs.OneByDepth.{leads_both, lone_goes, quiet_log, log_quiet}

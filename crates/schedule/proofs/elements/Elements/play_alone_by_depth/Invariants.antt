@@ -1,7 +1,6 @@
-use Rattle.std.proofs.Common.{◌≡◌, [], ◌++◌}
+use Rattle.std.proofs.Common.{◌≡◌}
 use Rattle.semantics.specs.Machine.{Events}
 use Rattle.schedule.specs.State.{state_of, IsWell}
-use Rattle.schedule.specs.Steps.{logged}
 use Rattle.schedule.specs.Runs.{steps_over}
 use Rattle.schedule.specs.Turns.{Leads}
 use Rattle.schedule.proofs.elements.Elements.play_alone_by_depth.Given as goal
