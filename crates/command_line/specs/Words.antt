@@ -16,9 +16,11 @@ use Rattle.command_line.specs.declared.Lowering.{Lowering}
 use Rattle.command_line.specs.declared.Mode.{Mode}
 use Rattle.command_line.specs.declared.Request.{Request}
 use Rattle.command_line.specs.declared.RunOptions.{RunOptions}
+use Rattle.command_line.specs.declared.Take.{Take}
 use Rattle.command_line.specs.declared.Topic.{Topic}
 use Rattle.command_line.specs.declared.inputs.Inputs.{Inputs}
 use Rattle.command_line.specs.declared.options.Collected.{Collected}
+use Rattle.command_line.specs.declared.options.Frames.{Frames}
 use Rattle.command_line.specs.declared.options.OptionName.{OptionName}
 use Rattle.command_line.specs.declared.options.Step.{Step}
 use Rattle.command_line.specs.declared.sizes.Sizes.{Sizes}
@@ -60,7 +62,8 @@ option_named name =
     else (if bytes_eq name (codes "seed") then Some OptionName.Seed
     else (if bytes_eq name (codes "svg") then Some OptionName.Svg
     else (if bytes_eq name (codes "map") then Some OptionName.Map
-    else None))))))))))))
+    else (if bytes_eq name (codes "take") then Some OptionName.Take
+    else None)))))))))))))
 
 abbrev pub says_how_to_run : OptionName → Bool
 says_how_to_run OptionName.Elements = true
@@ -68,14 +71,17 @@ says_how_to_run OptionName.Frames = true
 says_how_to_run OptionName.Steps = true
 says_how_to_run OptionName.Mode = true
 says_how_to_run OptionName.Turn = true
+says_how_to_run OptionName.Take = true
 says_how_to_run o = false
 
--- `profile` has a list of numbers of elements
+-- `profile` has a list of numbers of elements, and the frames of `run` may be `enough`
 abbrev pub option_of : Command → OptionName → OptionName
 option_of Command.Profile OptionName.Elements = OptionName.Sizes
+option_of Command.Run OptionName.Frames = OptionName.FramesOrEnough
 option_of c o = o
 
 abbrev pub takes : Command → OptionName → Bool
+takes Command.Run OptionName.FramesOrEnough = true
 takes Command.Run o = says_how_to_run o
 takes Command.Exec o = says_how_to_run o
 takes Command.Trace OptionName.Last = true
@@ -88,11 +94,13 @@ takes Command.Profile OptionName.Sizes = true
 takes Command.Profile OptionName.Frames = true
 takes Command.Profile OptionName.Steps = true
 takes Command.Profile OptionName.Svg = true
+takes Command.Profile OptionName.Take = true
 takes Command.Orders OptionName.Elements = true
 takes Command.Orders OptionName.Frames = true
 takes Command.Orders OptionName.Steps = true
 takes Command.Orders OptionName.Count = true
 takes Command.Orders OptionName.Seed = true
+takes Command.Orders OptionName.Take = true
 takes Command.Lower OptionName.Map = true
 takes c o = false
 
@@ -101,15 +109,28 @@ abbrev pub takes_inputs : Command → Bool
 takes_inputs Command.Exec = true
 takes_inputs c = false
 
+-- the frames that were given as a number
+abbrev pub frames_given : Option Frames → Option ℕ
+frames_given (Some (Frames.Number n)) = Some n
+frames_given (Some Frames.Enough) = None
+frames_given None = None
+
 -- how to run: what was not given has its default
 abbrev pub run_options : Collected → RunOptions
 run_options g = record {
   elements = unwrap_or g.elements 1;
-  frames = unwrap_or g.frames 256;
+  frames = unwrap_or (frames_given g.frames) 256;
   steps = unwrap_or g.steps 1000000;
   mode = unwrap_or g.mode (Some Mode.One);
   turn = g.turn;
+  take = unwrap_or g.take (Some Take.Oldest);
 }
+
+-- a run with these frames: with `enough` of them the number in the options says nothing
+abbrev pub run_request : RunOptions → Option Frames → Request
+run_request options None = Request.Run options
+run_request options (Some (Frames.Number n)) = Request.Run options
+run_request options (Some Frames.Enough) = Request.RunEnough options
 
 -- 1, 2, 4, 8 and 16 elements
 abbrev pub usual_sizes : Sizes
@@ -117,7 +138,7 @@ usual_sizes = record { bits = 65814 }
 
 -- the request of a command with these options and inputs
 abbrev pub request_of : Command → Collected → Inputs → Request
-request_of Command.Run g ins = Request.Run (run_options g)
+request_of Command.Run g ins = run_request (run_options g) g.frames
 request_of Command.Mean g ins = Request.Mean (unwrap_or g.steps 1000000)
 request_of Command.Check g ins = Request.Check
 request_of Command.Compile g ins = Request.Compile
@@ -164,6 +185,26 @@ abbrev pub first_mode : Option (Option Mode) → Text → Option (Option Mode)
 first_mode (Some before) value = None
 first_mode None value = Some (mode_named value)
 
+-- each word is an order's or that of no order
+abbrev pub take_named : Text → Option Take
+take_named word =
+    if bytes_eq word (codes "oldest") then Some Take.Oldest
+    else (if bytes_eq word (codes "depth") then Some Take.Depth
+    else None)
+
+abbrev pub first_take : Option (Option Take) → Text → Option (Option Take)
+first_take (Some before) value = None
+first_take None value = Some (take_named value)
+
+abbrev pub first_frames : Option Frames → Text → Option Frames
+first_frames (Some before) value = None
+first_frames None value = option_map (λ n. Frames.Number n) (number_of value)
+
+abbrev pub first_frames_or_enough : Option Frames → Text → Option Frames
+first_frames_or_enough (Some before) value = None
+first_frames_or_enough None value =
+    if bytes_eq value (codes "enough") then Some Frames.Enough else option_map (λ n. Frames.Number n) (number_of value)
+
 abbrev pub format_named : Text → Option Format
 format_named word =
     if bytes_eq word (codes "text") then Some (Format.Events EventFormat.Lines)
@@ -199,10 +240,12 @@ first_sizes None value = sizes_from (record { bits = 0 }) 64 value
 
 abbrev pub with_option : Collected → OptionName → Text → Option Collected
 with_option g OptionName.Elements value = option_map (λ n. record g { elements = Some n }) (first_number g.elements value)
-with_option g OptionName.Frames value = option_map (λ n. record g { frames = Some n }) (first_number g.frames value)
+with_option g OptionName.Frames value = option_map (λ f. record g { frames = Some f }) (first_frames g.frames value)
+with_option g OptionName.FramesOrEnough value = option_map (λ f. record g { frames = Some f }) (first_frames_or_enough g.frames value)
 with_option g OptionName.Steps value = option_map (λ n. record g { steps = Some n }) (first_number g.steps value)
 with_option g OptionName.Mode value = option_map (λ m. record g { mode = Some m }) (first_mode g.mode value)
 with_option g OptionName.Turn value = option_map (λ n. record g { turn = Some n }) (first_number g.turn value)
+with_option g OptionName.Take value = option_map (λ t. record g { take = Some t }) (first_take g.take value)
 with_option g OptionName.Last value = option_map (λ n. record g { last = Some n }) (first_number g.last value)
 with_option g OptionName.Count value = option_map (λ n. record g { count = Some n }) (first_number g.count value)
 with_option g OptionName.Seed value = option_map (λ n. record g { seed = Some n }) (first_number g.seed value)
@@ -329,6 +372,7 @@ nothing = record {
   steps = None;
   mode = None;
   turn = None;
+  take = None;
   literals = Literals.Omitted;
   code = false;
   last = None;

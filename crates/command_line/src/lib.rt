@@ -25,6 +25,8 @@ pub enum Request {
     Compile,
     /// Compiles and runs the graph on standard input.
     Run(RunOptions),
+    /// The same, with the least number of frames for each element that suffices in every order. The number in the options says nothing.
+    RunEnough(RunOptions),
     /// Lists the object on standard input.
     Dis {
         literals: Literals,
@@ -112,6 +114,15 @@ pub enum Mode {
     Free,
 }
 
+/// Which of its tokens an element takes next.
+#[derive(Clone, Copy, Debug, PartialEq, Eq)]
+pub enum Take {
+    /// Its oldest one.
+    Oldest,
+    /// Its oldest one, but requests for frames wait until few other tokens are left: this takes few frames.
+    Depth,
+}
+
 /// How a graph is to be run.
 #[derive(Debug, Drop)]
 pub struct RunOptions {
@@ -124,6 +135,8 @@ pub struct RunOptions {
     pub mode: Option<Mode>,
     /// How many steps an element takes in one turn at most, where that was given.
     pub turn: Option<u64>,
+    /// `None` where its word names no order.
+    pub take: Option<Take>,
 }
 
 /// The commands.

@@ -1,14 +1,16 @@
 //! The options of a command, and what one word after it says.
 
 ghost use Rattle.std.specs.Prelude.{◌≡◌, ◌<◌, option_map};
-ghost use Rattle.command_line.specs.Words.{after, asks_help, asks_version, first_mode, first_format, first_number, first_sizes, flag_met};
-ghost use Rattle.command_line.specs.Words.{format_named, is_flag, is_short, literals_included, long_of, map_asked, mode_named, named, nothing};
-ghost use Rattle.command_line.specs.Words.{number_of, option_met, option_named, option_of, parts_at, plain_met, request_of, run_options};
-ghost use Rattle.command_line.specs.Words.{says_how_to_run, sizes_from, takes, takes_inputs, usual_sizes, valued, with_option, without_value};
+ghost use Rattle.command_line.specs.Words.{after, asks_help, asks_version, first_format, first_frames, first_frames_or_enough, first_mode, first_number};
+ghost use Rattle.command_line.specs.Words.{first_sizes, first_take, flag_met, format_named, frames_given, is_flag, is_short, literals_included, long_of};
+ghost use Rattle.command_line.specs.Words.{map_asked, mode_named, named, nothing, number_of, option_met, option_named, option_of, parts_at, plain_met};
+ghost use Rattle.command_line.specs.Words.{request_of, run_options, run_request, says_how_to_run, sizes_from, take_named, takes, takes_inputs};
+ghost use Rattle.command_line.specs.Words.{usual_sizes, valued, with_option, without_value};
 ghost use Rattle.command_line.specs.Words.{word_met};
 
 use crate::{
     Command, EventFormat, Format, Inputs, Literals, Lowering, Mode, Request, RunOptions, Sizes,
+    Take,
 };
 
 /// The options of all commands.
@@ -16,9 +18,12 @@ use crate::{
 pub(crate) enum OptionName {
     Elements,
     Frames,
+    /// A number of frames, or `enough`.
+    FramesOrEnough,
     Steps,
     Mode,
     Turn,
+    Take,
     /// It has no value.
     Literals,
     /// It has no value.
@@ -35,15 +40,25 @@ pub(crate) enum OptionName {
     Map,
 }
 
+/// How many frames each element gets.
+#[derive(Clone, Copy, Debug, PartialEq, Eq)]
+pub(crate) enum Frames {
+    Number(u64),
+    /// The least number that suffices in every order.
+    Enough,
+}
+
 /// The options that were given so far.
 #[derive(Clone, Copy, Debug)]
 pub(crate) struct Collected {
     pub(crate) elements: Option<u64>,
-    pub(crate) frames: Option<u64>,
+    pub(crate) frames: Option<Frames>,
     pub(crate) steps: Option<u64>,
     /// Within: `None` where the word is that of no mode.
     pub(crate) mode: Option<Option<Mode>>,
     pub(crate) turn: Option<u64>,
+    /// Within: `None` where the word names no order.
+    pub(crate) take: Option<Option<Take>>,
     pub(crate) literals: Literals,
     pub(crate) code: bool,
     pub(crate) last: Option<u64>,
@@ -78,6 +93,7 @@ impl Collected {
             steps: None,
             mode: None,
             turn: None,
+            take: None,
             literals: Literals::Omitted,
             code: false,
             last: None,
@@ -100,7 +116,11 @@ impl Collected {
                 ..self
             }),
             OptionName::Frames => Some(Collected {
-                frames: Some(first_number(self.frames, value)?),
+                frames: Some(first_frames(self.frames, value)?),
+                ..self
+            }),
+            OptionName::FramesOrEnough => Some(Collected {
+                frames: Some(first_frames_or_enough(self.frames, value)?),
                 ..self
             }),
             OptionName::Steps => Some(Collected {
@@ -113,6 +133,10 @@ impl Collected {
             }),
             OptionName::Turn => Some(Collected {
                 turn: Some(first_number(self.turn, value)?),
+                ..self
+            }),
+            OptionName::Take => Some(Collected {
+                take: Some(first_take(self.take, value)?),
                 ..self
             }),
             OptionName::Last => Some(Collected {
@@ -232,6 +256,49 @@ fn mode_named(word: &str) -> Option<Mode>
     }
 }
 
+/// What the value says of the order in which tokens are taken, where nothing was said before: the order that it names, if it names one.
+fn first_take(before: Option<Option<Take>>, value: &str) -> Option<Option<Take>>
+    ensures { result ≡ first_take before value.now }
+{
+    match before {
+        Some(_before) => None,
+        None => Some(take_named(value)),
+    }
+}
+
+fn take_named(word: &str) -> Option<Take>
+    ensures { result ≡ take_named word.now }
+{
+    if word == "oldest" {
+        Some(Take::Oldest)
+    } else if word == "depth" {
+        Some(Take::Depth)
+    } else {
+        None
+    }
+}
+
+/// The number of frames that the value is, where none were given before.
+fn first_frames(before: Option<Frames>, value: &str) -> Option<Frames>
+    ensures { result ≡ first_frames before value.now }
+{
+    match before {
+        Some(_before) => None,
+        None => Some(Frames::Number(number_of(value)?)),
+    }
+}
+
+/// The frames that the value says, where none were given before.
+fn first_frames_or_enough(before: Option<Frames>, value: &str) -> Option<Frames>
+    ensures { result ≡ first_frames_or_enough before value.now }
+{
+    match before {
+        Some(_before) => None,
+        None if value == "enough" => Some(Frames::Enough),
+        None => Some(Frames::Number(number_of(value)?)),
+    }
+}
+
 fn option_named(name: &str) -> Option<OptionName>
     ensures { result ≡ option_named name.now }
 {
@@ -261,6 +328,8 @@ fn option_named(name: &str) -> Option<OptionName>
         Some(OptionName::Svg)
     } else if name == "map" {
         Some(OptionName::Map)
+    } else if name == "take" {
+        Some(OptionName::Take)
     } else {
         None
     }
@@ -277,15 +346,17 @@ fn says_how_to_run(option: OptionName) -> bool
             | OptionName::Steps
             | OptionName::Mode
             | OptionName::Turn
+            | OptionName::Take
     )
 }
 
-/// `profile` has a list of numbers of elements.
+/// `profile` has a list of numbers of elements, and the frames of `run` may be `enough`.
 fn option_of(command: Command, option: OptionName) -> OptionName
     ensures { result ≡ option_of command option }
 {
     match (command, option) {
         (Command::Profile, OptionName::Elements) => OptionName::Sizes,
+        (Command::Run, OptionName::Frames) => OptionName::FramesOrEnough,
         _ => option,
     }
 }
@@ -294,7 +365,8 @@ fn takes(command: Command, option: OptionName) -> bool
     ensures { result ≡ takes command option }
 {
     match command {
-        Command::Run | Command::Exec => says_how_to_run(option),
+        Command::Run => says_how_to_run(option) || option == OptionName::FramesOrEnough,
+        Command::Exec => says_how_to_run(option),
         Command::Trace => {
             says_how_to_run(option) || matches!(option, OptionName::Last | OptionName::Format)
         }
@@ -303,7 +375,11 @@ fn takes(command: Command, option: OptionName) -> bool
         Command::Dot => option == OptionName::Code,
         Command::Profile => matches!(
             option,
-            OptionName::Sizes | OptionName::Frames | OptionName::Steps | OptionName::Svg
+            OptionName::Sizes
+                | OptionName::Frames
+                | OptionName::Steps
+                | OptionName::Svg
+                | OptionName::Take
         ),
         Command::Orders => matches!(
             option,
@@ -312,6 +388,7 @@ fn takes(command: Command, option: OptionName) -> bool
                 | OptionName::Steps
                 | OptionName::Count
                 | OptionName::Seed
+                | OptionName::Take
         ),
         Command::Lower => option == OptionName::Map,
         _ => false,
@@ -324,16 +401,37 @@ pub(crate) fn takes_inputs(command: Command) -> bool
     command == Command::Exec
 }
 
+/// The frames that were given as a number.
+fn frames_given(frames: Option<Frames>) -> Option<u64>
+    ensures { result ≡ frames_given frames }
+{
+    match frames {
+        Some(Frames::Number(number)) => Some(number),
+        Some(Frames::Enough) | None => None,
+    }
+}
+
 /// How to run: what was not given has its default.
 fn run_options(collected: Collected) -> RunOptions
     ensures { result ≡ run_options collected }
 {
     RunOptions {
         elements: collected.elements.unwrap_or(1),
-        frames: collected.frames.unwrap_or(256),
+        frames: frames_given(collected.frames).unwrap_or(256),
         steps: collected.steps.unwrap_or(1_000_000),
         mode: collected.mode.unwrap_or(Some(Mode::One)),
         turn: collected.turn,
+        take: collected.take.unwrap_or(Some(Take::Oldest)),
+    }
+}
+
+/// A run with these frames: with `enough` of them the number in the options says nothing.
+fn run_request(options: RunOptions, frames: Option<Frames>) -> Request
+    ensures { result ≡ run_request options frames }
+{
+    match frames {
+        Some(Frames::Enough) => Request::RunEnough(options),
+        Some(Frames::Number(_)) | None => Request::Run(options),
     }
 }
 
@@ -342,7 +440,7 @@ pub(crate) fn request_of(command: Command, collected: Collected, inputs: Inputs)
     ensures { result ≡ request_of command collected inputs }
 {
     match command {
-        Command::Run => Request::Run(run_options(collected)),
+        Command::Run => run_request(run_options(collected), collected.frames),
         Command::Mean => Request::Mean {
             steps: collected.steps.unwrap_or(1_000_000),
         },
