@@ -57,7 +57,8 @@ The language, with its refusals: docs/LANGUAGE.md. What is printed: docs/FORMATS
 
 /// The end of the help of `ets run`.
 const AFTER_RUN: &str = "\
-Example: ets run --elements 4 --frames 64 < examples/factorial.ets
+Examples: ets run --elements 4 --frames 64 < examples/factorial.ets
+          ets run --elements 4 --frames enough < examples/factorial.ets
 The report, the ends of a run and their exit statuses: docs/FORMATS.md, \"Report of `ets run`\".";
 
 const AFTER_MEAN: &str = "\
@@ -128,6 +129,21 @@ fn frames<'a>(alloc: Global) -> Arg<'a> {
     number(alloc, "frames", "256", "frames for each element, 1 to 1024")
 }
 
+/// The frames of `run`. Any text is a value of them where `enough` is.
+fn frames_or_enough<'a>(alloc: Global, enough: bool) -> Arg<'a> {
+    let frames = number(
+        alloc,
+        "frames",
+        "256",
+        "frames for each element, 1 to 1024; enough: the least number that suffices in every order",
+    );
+    if enough {
+        frames.value_parser(ValueParser::String)
+    } else {
+        frames
+    }
+}
+
 fn steps<'a>(alloc: Global) -> Arg<'a> {
     number(
         alloc,
@@ -137,8 +153,22 @@ fn steps<'a>(alloc: Global) -> Arg<'a> {
     )
 }
 
-/// Adds the options that say how to run.
-fn with_run_options<'a>(alloc: Global, command: Command<'a>) -> Result<Command<'a>, AllocError> {
+fn take<'a>(alloc: Global) -> Arg<'a> {
+    Arg::new(alloc, "take")
+        .long("take")
+        .value_name("ORDER")
+        .default_value("oldest")
+        .help(
+            "oldest: an element takes its oldest token; depth: the same, but requests for frames wait until few other tokens are left, which takes few frames",
+        )
+}
+
+/// Adds the options that say how to run, of which `frames` is one.
+fn with_run_options<'a>(
+    alloc: Global,
+    command: Command<'a>,
+    frames: Arg<'a>,
+) -> Result<Command<'a>, AllocError> {
     let mode = Arg::new(alloc, "mode")
         .long("mode")
         .value_name("MODE")
@@ -155,10 +185,11 @@ fn with_run_options<'a>(alloc: Global, command: Command<'a>) -> Result<Command<'
         );
     command
         .arg(elements(alloc))?
-        .arg(frames(alloc))?
+        .arg(frames)?
         .arg(steps(alloc))?
         .arg(mode)?
-        .arg(turn)
+        .arg(turn)?
+        .arg(take(alloc))
 }
 
 fn lower_command<'a>(alloc: Global) -> Result<Command<'a>, AllocError> {
@@ -174,11 +205,11 @@ fn lower_command<'a>(alloc: Global) -> Result<Command<'a>, AllocError> {
         .arg(map)
 }
 
-fn run_command<'a>(alloc: Global) -> Result<Command<'a>, AllocError> {
+fn run_command<'a>(alloc: Global, enough: bool) -> Result<Command<'a>, AllocError> {
     let command = Command::new(alloc, "run")
         .about("Compiles and runs a graph: its text on standard input, then its inputs, one a line")
         .after_help(AFTER_RUN);
-    with_run_options(alloc, command)
+    with_run_options(alloc, command, frames_or_enough(alloc, enough))
 }
 
 fn exec_command<'a>(alloc: Global) -> Result<Command<'a>, AllocError> {
@@ -189,7 +220,7 @@ fn exec_command<'a>(alloc: Global) -> Result<Command<'a>, AllocError> {
         .about("Runs the object on standard input, on these inputs")
         .after_help(AFTER_EXEC)
         .arg(inputs)?;
-    with_run_options(alloc, command)
+    with_run_options(alloc, command, frames(alloc))
 }
 
 fn mean_command<'a>(alloc: Global) -> Result<Command<'a>, AllocError> {
@@ -242,7 +273,7 @@ fn trace_command<'a>(alloc: Global) -> Result<Command<'a>, AllocError> {
         .after_help(AFTER_TRACE)
         .arg(last)?
         .arg(format)?;
-    with_run_options(alloc, command)
+    with_run_options(alloc, command, frames(alloc))
 }
 
 fn profile_command<'a>(alloc: Global) -> Result<Command<'a>, AllocError> {
@@ -264,6 +295,7 @@ fn profile_command<'a>(alloc: Global) -> Result<Command<'a>, AllocError> {
         .arg(sizes)?
         .arg(frames(alloc))?
         .arg(steps(alloc))?
+        .arg(take(alloc))?
         .arg(svg)
 }
 
@@ -276,12 +308,29 @@ fn orders_command<'a>(alloc: Global) -> Result<Command<'a>, AllocError> {
         .arg(elements(alloc))?
         .arg(frames(alloc))?
         .arg(steps(alloc))?
+        .arg(take(alloc))?
         .arg(number(alloc, "count", "100", "how many orders"))?
         .arg(number(alloc, "seed", "1", "which orders"))
 }
 
-/// The command line as `clap` reads it.
-pub fn program_command<'a>(alloc: Global) -> Result<Command<'a>, AllocError> {
+/// Whether these words give `--frames` the value `enough`.
+fn has_enough<S: AsStr>(words: &[S]) -> bool {
+    let mut before = "";
+    for word in words {
+        let word = word.as_str();
+        if word == "--frames=enough" || before == "--frames" && word == "enough" {
+            return true;
+        }
+        before = word;
+    }
+    false
+}
+
+/// The command line as `clap` reads these words by it.
+pub fn program_command<'a, S: AsStr>(
+    alloc: Global,
+    words: &[S],
+) -> Result<Command<'a>, AllocError> {
     let check = Command::new(alloc, "check")
         .about("Says whether standard input has a good graph")
         .after_help(AFTER_CHECK);
@@ -310,7 +359,7 @@ pub fn program_command<'a>(alloc: Global) -> Result<Command<'a>, AllocError> {
         .subcommand(dot_command(alloc)?)?
         .subcommand(exec_command(alloc)?)?
         .subcommand(mean_command(alloc)?)?
-        .subcommand(run_command(alloc)?)?
+        .subcommand(run_command(alloc, has_enough(words))?)?
         .subcommand(trace_command(alloc)?)?
         .subcommand(profile_command(alloc)?)?
         .subcommand(orders_command(alloc)?)
@@ -318,7 +367,7 @@ pub fn program_command<'a>(alloc: Global) -> Result<Command<'a>, AllocError> {
 
 /// What `clap` gives instead of a reading of the words, if it has none.
 fn error_of<S: AsStr>(alloc: Global, words: &[S]) -> Result<Option<Error>, AllocError> {
-    match program_command(alloc)?.try_get_matches_from(words) {
+    match program_command(alloc, words)?.try_get_matches_from(words) {
         Ok(_matches) => Ok(None),
         Err(error) if error.kind() == ErrorKind::OutOfMemory => Err(AllocError),
         Err(error) => Ok(Some(error)),

@@ -3,7 +3,7 @@
 use clap::ArgMatches;
 use clap::error::ErrorKind;
 use command_line::{
-    Asked, EventFormat, Format, Inputs, Literals, Lowering, Mode, Request, RunOptions, Sizes,
+    Asked, EventFormat, Format, Inputs, Literals, Lowering, Mode, Request, RunOptions, Sizes, Take,
     read_words, version_line,
 };
 use command_texts::{help_text, mistake_text, program_command};
@@ -76,14 +76,39 @@ fn mode_in(word: &str) -> Option<Mode> {
     }
 }
 
-fn options_in(matches: &ArgMatches<'_>) -> Option<RunOptions> {
+fn take_in(word: &str) -> Option<Take> {
+    if word == "oldest" {
+        Some(Take::Oldest)
+    } else if word == "depth" {
+        Some(Take::Depth)
+    } else {
+        None
+    }
+}
+
+/// The options with this number of frames.
+fn options_with(matches: &ArgMatches<'_>, frames: u64) -> Option<RunOptions> {
     Some(RunOptions {
         elements: matches.get_one::<u64>("elements")?,
-        frames: matches.get_one::<u64>("frames")?,
+        frames,
         steps: matches.get_one::<u64>("steps")?,
         mode: mode_in(matches.get_str("mode")?),
         turn: matches.get_one::<u64>("turn"),
+        take: take_in(matches.get_str("take")?),
     })
+}
+
+fn options_in(matches: &ArgMatches<'_>) -> Option<RunOptions> {
+    options_with(matches, matches.get_one::<u64>("frames")?)
+}
+
+/// A run, with `enough` frames or with a number of them.
+fn run_in(matches: &ArgMatches<'_>) -> Option<Request> {
+    if matches.get_str("frames")? == "enough" {
+        Some(Request::RunEnough(options_with(matches, 256)?))
+    } else {
+        Some(Request::Run(options_in(matches)?))
+    }
 }
 
 fn options_without_mode(matches: &ArgMatches<'_>) -> Option<RunOptions> {
@@ -93,6 +118,7 @@ fn options_without_mode(matches: &ArgMatches<'_>) -> Option<RunOptions> {
         steps: matches.get_one::<u64>("steps")?,
         mode: Some(Mode::One),
         turn: None,
+        take: take_in(matches.get_str("take")?),
     })
 }
 
@@ -141,13 +167,14 @@ fn are_profile_options(matches: &ArgMatches<'_>, options: &RunOptions, sizes: Si
         && matches.get_one::<u64>("steps") == Some(options.steps)
         && options.elements == 1
         && options.mode == Some(Mode::One)
+        && matches.get_str("take").and_then(take_in) == options.take
         && are_sizes(sizes, matches.get_strs("elements").unwrap_or(&[]))
 }
 
 /// The request that `clap` reads, except for its inputs and lists.
 fn request_in(matches: &ArgMatches<'_>) -> Option<Request> {
     match matches.subcommand() {
-        Some(("run", run)) => Some(Request::Run(options_in(run)?)),
+        Some(("run", run)) => run_in(run),
         Some(("check", _)) => Some(Request::Check),
         Some(("compile", _)) => Some(Request::Compile),
         Some(("dis", dis)) => Some(Request::Dis {
@@ -182,6 +209,7 @@ fn are_same(a: &RunOptions, b: &RunOptions) -> bool {
         && a.steps == b.steps
         && a.mode == b.mode
         && a.turn == b.turn
+        && a.take == b.take
 }
 
 fn is_integer(word: &str) -> bool {
@@ -239,6 +267,7 @@ fn is_read(request: &Request, matches: &ArgMatches<'_>) -> bool {
 fn is_same(a: &Request, b: &Request) -> bool {
     match (a, b) {
         (Request::Run(a), Request::Run(b)) => are_same(a, b),
+        (Request::RunEnough(a), Request::RunEnough(b)) => are_same(a, b),
         (Request::Mean { steps: a }, Request::Mean { steps: b }) => *a == *b,
         (Request::Dot { code: a }, Request::Dot { code: b }) => *a == *b,
         (Request::Check, Request::Check) => true,
@@ -290,7 +319,7 @@ fn agreed_if(agrees: bool, agreed: Agreed) -> Agreed {
 /// have to agree too.
 pub fn agree_on(alloc: Global, words: &[&str]) -> anyhow::Result<Agreed> {
     let asked = read_words(words.get(1..).unwrap_or(&[]));
-    let error = match program_command(alloc)?.try_get_matches_from(words) {
+    let error = match program_command(alloc, words)?.try_get_matches_from(words) {
         Ok(matches) => {
             let agrees = match &asked {
                 Asked::Request(request) => is_read(request, &matches),

@@ -46,7 +46,13 @@ const FIRST: [&str; 34] = [
 ];
 
 /// What may follow `run`.
-const OPTIONS: [&str; 23] = [
+const OPTIONS: [&str; 29] = [
+    "--frames",
+    "--frames enough",
+    "--frames=enough",
+    "--frames=enoughs",
+    "--take depth",
+    "--take=",
     "--elements",
     "--elements 4",
     "--elements=4",
@@ -73,7 +79,7 @@ const OPTIONS: [&str; 23] = [
 ];
 
 /// Options with their values, to be given in any order; some of them are refused.
-const VALUES: [&str; 10] = [
+const VALUES: [&str; 12] = [
     "--elements 4",
     "--elements=16",
     "--frames 21",
@@ -82,6 +88,8 @@ const VALUES: [&str; 10] = [
     "--steps=1000000",
     "--mode rounds",
     "--mode=Rounds",
+    "--frames=enough",
+    "--take=oldest",
     "--",
     "--help",
 ];
@@ -99,7 +107,7 @@ const WORDS: [&str; 8] = [
 ];
 
 /// What may follow `exec`.
-const INPUTS: [&str; 16] = [
+const INPUTS: [&str; 18] = [
     "2",
     "-",
     "",
@@ -111,6 +119,8 @@ const INPUTS: [&str; 16] = [
     "--elements=4",
     "--turn",
     "--mode rounds",
+    "--frames=enough",
+    "--take=depth",
     "--code",
     "--help",
     "-h",
@@ -119,7 +129,7 @@ const INPUTS: [&str; 16] = [
 ];
 
 /// What may follow `trace`, `profile` and `orders`.
-const MEASURES: [&str; 20] = [
+const MEASURES: [&str; 22] = [
     "--last 3",
     "--last=x",
     "--format chrome",
@@ -131,6 +141,8 @@ const MEASURES: [&str; 20] = [
     "--elements=,",
     "--elements 3,3,+07,99",
     "--frames=21",
+    "--frames enough",
+    "--take depth",
     "--mode free",
     "--svg",
     "--svg=x",
