@@ -24,6 +24,10 @@ pub enum Refusal {
     /// This line of the inputs, counted from 1, is not an integer.
     InputLine(u64),
     Start(StartFault),
+    /// This many frames of all elements together suffice in every order, and the elements cannot have so many.
+    TooManyFrames(u128),
+    /// No number of frames is known to suffice: the meaning does not come to rest with no reader waiting.
+    NotAtRest,
     /// Standard input is not an object.
     Object(ObjectFault),
     /// Standard input is no listing of an object.
