@@ -11,3 +11,6 @@ pub mod Valued
 pub mod Booked
 pub mod Completed
 pub mod Needed
+pub mod FramesUnwanted
+mod TextNeeds
+pub mod Taking

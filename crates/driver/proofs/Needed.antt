@@ -9,7 +9,7 @@ use Rattle.semantics.specs.Meaning.{fetch_count}
 use Rattle.semantics.specs.Report.{sum_below}
 use Rattle.semantics.specs.WellFormed.{WellFormed}
 use Rattle.schedule.specs.Unlisted.{with_events}
-use Rattle.command_line.specs.declared.Mode.{Mode}
+use Rattle.driver.specs.declared.order.Order.{Order}
 use Rattle.law_compiler.specs.Objects.{plan_of}
 use Rattle.law_confluence.specs.Outcome.{AreInputsOf}
 use Rattle.law_completion.specs.TotalGraph.{NeedsAtMost, IsLargeEnough}
@@ -39,11 +39,11 @@ calls_needed g inputs well fit activities called iterations c =
     } c.run c.is_run c.called c.all in
     subst (λ (t : ℕ). NeedsAtMost g inputs called t) c.iteration_count (subst (λ (d : ℕ). NeedsAtMost g inputs d (count_by is_turn c.called)) c.invocation_count needs)
 
-some_elements : (e f n : ℕ) → 1 + n ≤ e * f → 0 < e
+pub some_elements : (e f n : ℕ) → 1 + n ≤ e * f → 0 < e
 some_elements zero f n h = absurd (omega (arith, h))
 some_elements (suc e) f n h = omega arith
 
-some_frames : (e f n : ℕ) → 1 + n ≤ e * f → 0 < f
+pub some_frames : (e f n : ℕ) → 1 + n ≤ e * f → 0 < f
 some_frames e zero n h = absurd (omega (arith, h))
 some_frames e (suc f) n h = omega arith
 
@@ -68,13 +68,13 @@ needs_suffice text g inputs z limit by_list may_stop r h activities frames steps
     (large g inputs z limit activities frames steps iterations n has) uncut
 
 pub needs_suffice_in_modes : NeedsSufficeInModes
-needs_suffice_in_modes Mode.One text g inputs c may_stop r h = needs_suffice text g inputs (size_of c) c.steps false false r h.0
-needs_suffice_in_modes Mode.Rounds text g inputs c may_stop r h = needs_suffice text g inputs (size_of c) c.steps false may_stop r h
-needs_suffice_in_modes Mode.Free text g inputs c may_stop r h = needs_suffice text g inputs (size_of c) c.steps false may_stop r h
+needs_suffice_in_modes (Order.InTurn take) text g inputs c may_stop r h = needs_suffice text g inputs (size_of c) c.steps false false r h.0
+needs_suffice_in_modes Order.InRounds text g inputs c may_stop r h = needs_suffice text g inputs (size_of c) c.steps false may_stop r h
+needs_suffice_in_modes Order.Free text g inputs c may_stop r h = needs_suffice text g inputs (size_of c) c.steps false may_stop r h
 
 pub needs_suffice_quietly : NeedsSufficeQuietly
-needs_suffice_quietly mode text g inputs c may_stop r h activities frames steps iterations n has uncut =
-    let v = needs_suffice_in_modes mode text g inputs c may_stop (with_events r h.2.1) h.2.2 activities frames steps iterations n has
+needs_suffice_quietly order text g inputs c may_stop r h activities frames steps iterations n has uncut =
+    let v = needs_suffice_in_modes order text g inputs c may_stop (with_events r h.2.1) h.2.2 activities frames steps iterations n has
     record { memory = uncut.memory; gate = uncut.gate; list = uncut.list } in
     record { rest = v.rest; none_waits = v.none_waits }
 

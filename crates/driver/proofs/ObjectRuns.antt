@@ -9,11 +9,14 @@ use Rattle.object_view.specs.Reading.{Opened, opened}
 use Rattle.schedule.specs.declared.config.Config.{Config}
 use Rattle.schedule.specs.Setting.{Setting, size}
 use Rattle.schedule.specs.declared.halt.Halt.{Halt}
+use Rattle.schedule.specs.declared.take.Take.{Take}
+use Rattle.schedule.specs.declared.take.Take.TheVariants.{Oldest, Depth}
 use Rattle.schedule.specs.Runs.{SoFar, Began, Plays, rounds_of}
 use Rattle.schedule.specs.Reported.{IsReportOf}
-use Rattle.schedule.specs.Unlisted.{with_events, ShowsQuietly, Quietly, RunsInTurn}
+use Rattle.schedule.specs.Turns.{AreInTurn}
+use Rattle.schedule.specs.Unlisted.{with_events, ShowsQuietly, Quietly, RunsTaking}
 use Rattle.schedule.proofs.Showing.{shown}
-use Rattle.command_line.specs.declared.Mode.{Mode}
+use Rattle.driver.specs.declared.order.Order.{Order}
 use Rattle.rounds.specs.Counted.{ReportsRounds}
 use Rattle.driver.specs.Headline.{stops_in}
 use Rattle.driver.specs.Objects.{ShowsObject, ShowsObjectIn, RunsObject, StartsObject}
@@ -96,29 +99,39 @@ module _ (bytes : List ℕ) (inputs : List ℤ) (c : Config) (k : SoFar) (s : St
       → RunsObject bytes inputs c (RunsByList picks) r
   runs_by_list picks r h = runs (RunsByList picks) r (follows true picks r h.0 h.1 h.2 h.3 h.4 h.5)
 
-  pub runs_by_turns : (r : Report)
-      → (last : SoFar) × (halt : Halt) × (rounds : ℕ) × (made : Events) × Plays false (rounds_of rounds k.state.setting.elements) k.state last.state
-      halt made × (last.events ≡ k.events ++ made) × IsReportOf last halt r
-      → RunsObject bytes inputs c RunsByTurns r
+  pub runs_by_turns : (take : Take) (r : Report) → RunsTaking take k r → RunsObject bytes inputs c (RunsByTurns take) r
   unfolding elements_of
-  runs_by_turns r h =
-      let P : ℕ → Type 0 = λ n. Plays false (rounds_of h.2 n) k.state (h.0).state h.1 h.3 in
-      let plays = subst P elements_of h.4 in
-      runs RunsByTurns r (h.2, follows false (rounds_of h.2 c.elements) r h.0 h.1 h.3 plays h.5 h.6)
+  runs_by_turns Oldest r t =
+      let rounds = t.plays.0 in
+      let plays = subst (λ (n : ℕ). Plays false (rounds_of rounds n) k.state (t.last).state t.halt t.made) elements_of t.plays.1 in
+      runs (RunsByTurns Oldest) r (rounds, follows false (rounds_of rounds c.elements) r t.last t.halt t.made plays t.events t.reported)
+  runs_by_turns Depth r t = runs (RunsByTurns Depth) r (record {
+    width = s.width;
+    start = k;
+    opens = s.opens;
+    last = t.last;
+    halt = t.halt;
+    made = t.made;
+    turns = t.plays.0;
+    in_turn = subst (λ (n : ℕ). AreInTurn n 0 t.plays.0) elements_of t.plays.1;
+    plays = t.plays.2;
+    events = t.events ∙ ap (λ (evs : Events). evs ++ t.made) s.opens.events;
+    reported = t.reported;
+  })
 
   pub runs_by_rounds : (may_stop : Bool) (rounds : ℕ) (r : Report) → ReportsRounds true may_stop k rounds r
       → RunsObject bytes inputs c (RunsByRounds may_stop rounds) r
   runs_by_rounds may_stop rounds r truth = runs (RunsByRounds may_stop rounds) r (record { width = s.width; start = k; opens = s.opens; truth = truth })
 
   -- QUIETLY. In each mode: the run in turns that is shown is the one that is followed.
-  pub shows_in_quietly : (mode : Mode) (may_stop : Bool) (r : Report)
+  pub shows_in_quietly : (order : Order) (may_stop : Bool) (r : Report)
       → ((ins : List ℤ) → Began ins k.state k.events → ShowsQuietly k.state.setting.program (size k.state.setting) ins k.state.setting.steps false
-      (stops_in mode may_stop) r)
-      → (mode ≡ Mode.One → Quietly (RunsInTurn k) r) → Quietly (ShowsObjectIn mode bytes inputs c may_stop) r
-  shows_in_quietly Mode.One may_stop r shows turns =
-      let q = turns refl in
+      (stops_in order may_stop) r)
+      → ((take : Take) → order ≡ Order.InTurn take → Quietly (RunsTaking take k) r) → Quietly (ShowsObjectIn order bytes inputs c may_stop) r
+  shows_in_quietly (Order.InTurn take) may_stop r shows turns =
+      let q = turns take refl in
       let x : Report = with_events r q.1 in
-      let t : RunsInTurn k x = q.2 in
-      (q.0, q.1, (shown_object false false x (t.shows inputs s.opens.began), runs_by_turns x (t.last, t.halt, t.rounds, t.made, t.plays, t.events, t.reported)))
-  shows_in_quietly Mode.Rounds may_stop r shows turns = shows_object_quietly false may_stop r shows
-  shows_in_quietly Mode.Free may_stop r shows turns = shows_object_quietly false may_stop r shows
+      let t : RunsTaking take k x = q.2 in
+      (q.0, q.1, (shown_object false false x (t.shows inputs s.opens.began), runs_by_turns take x t))
+  shows_in_quietly Order.InRounds may_stop r shows turns = shows_object_quietly false may_stop r shows
+  shows_in_quietly Order.Free may_stop r shows turns = shows_object_quietly false may_stop r shows

@@ -14,16 +14,20 @@ use Rattle.semantics.specs.Machine.{Machine, Size, CellState, Vacant, Full, Defe
 use Rattle.semantics.specs.Faithful.{Faithful, IsRun, IsSecondStore, IsBounded, inputs_of, largest}
 use Rattle.semantics.specs.Report.{Report, IsPicture, HasEnd, Shows}
 use Rattle.schedule.specs.declared.config.Config.{Config}
+use Rattle.schedule.specs.declared.take.Take.{Take}
+use Rattle.schedule.specs.declared.take.Take.TheVariants.{Oldest}
+use Rattle.command_line.specs.declared.Mode.{Mode}
 use Rattle.schedule.specs.Setting.{inputs_of as inputs_of_program}
 use Rattle.schedule.specs.Unlisted.{with_events, Quietly}
 use Rattle.driver.specs.Headline.{ShowsMemory, IsBoundedByMeaning, ReportsMeaning, ReportsOf, ReportsTruth, ReportsTruthByList, ReportsTruthIn}
 use Rattle.driver.specs.Headline.{stops_in, ReportsQuietly}
 use Rattle.replay.specs.declared.moment.Moment.{Moment}
 use Rattle.driver.specs.ListedEvents.{AreMoments, IsWatched}
-use Rattle.driver.specs.Orders.{RunsByTurns, RunsByList, size_of}
+use Rattle.driver.specs.Orders.{RunsByTurns, RunsByList, size_of, order_of}
 use Rattle.driver.specs.Objects.{ShowsObject, ShowsObjectIn, RunsObject}
+use Rattle.driver.proofs.Taking.{same_take}
 use Rattle.driver.proofs.Waiting.{deferred_are, no_frame_is_out}
-use Rattle.command_line.specs.declared.Mode.{Mode}
+use Rattle.driver.specs.declared.order.Order.{Order}
 use Rattle.driver.specs.Refused.{IsCompiled}
 
 -- a cell that is full has its value, and no other
@@ -137,13 +141,13 @@ ordered text g bytes inputs c by_list may_stop r Ordered compiled shown runs =
     let O : Code → Type 0 = λ x. Ordered x.program c inputs r in
     subst O (sym (shown.only runs.version runs.code runs.object) ∙ shown.only g.version compiled.object.code compiled.object.object) runs.ordered
 
-pub reports_in_turn : (text : List ℕ) (g : Graph) (bytes : List ℕ) (inputs : List ℤ) (c : Config) (r : Report)
-    → IsCompiled text g bytes → ShowsObject bytes inputs c false false r → RunsObject bytes inputs c RunsByTurns r → ReportsTruth text g inputs c r
+pub reports_in_turn : (way : Take) (text : List ℕ) (g : Graph) (bytes : List ℕ) (inputs : List ℤ) (c : Config) (r : Report)
+    → IsCompiled text g bytes → ShowsObject bytes inputs c false false r → RunsObject bytes inputs c (RunsByTurns way) r
+    → ReportsTruth way text g inputs c r
 unfolding reports_truth
-reports_in_turn text g bytes inputs c r compiled shown runs = (
+reports_in_turn way text g bytes inputs c r compiled shown runs = (
   reports_truth text g bytes inputs c false false r compiled shown,
-  ordered text g bytes
-      inputs c false false r RunsByTurns compiled shown runs,
+  ordered text g bytes inputs c false false r (RunsByTurns way) compiled shown runs,
 )
 
 pub reports_by_list : (text : List ℕ) (g : Graph) (bytes : List ℕ) (inputs : List ℤ) (c : Config) (picks : List (ℕ × ℕ)) (r : Report)
@@ -153,36 +157,44 @@ unfolding reports_truth
 reports_by_list text g bytes inputs c picks r compiled shown runs =
     (reports_truth text g bytes inputs c true false r compiled shown, ordered text g bytes inputs c true false r (RunsByList picks) compiled shown runs)
 
--- In each mode: only where the elements take turns on one thread is the order known.
-pub reports_in : (mode : Mode) (text : List ℕ) (g : Graph) (bytes : List ℕ) (inputs : List ℤ) (c : Config) (may_stop : Bool) (r : Report)
-    → IsCompiled text g bytes → ShowsObject bytes inputs c false (stops_in mode may_stop) r
-    → (mode ≡ Mode.One → RunsObject bytes inputs c RunsByTurns r) → ReportsTruthIn mode text g inputs c may_stop r
-reports_in Mode.One text g bytes inputs c may_stop r compiled shown runs = reports_in_turn text g bytes inputs c r compiled shown (runs refl)
-reports_in Mode.Rounds text g bytes inputs c may_stop r compiled shown runs = reports_truth text g bytes inputs c false may_stop r compiled shown
-reports_in Mode.Free text g bytes inputs c may_stop r compiled shown runs = reports_truth text g bytes inputs c false may_stop r compiled shown
+-- The order of a mode in which the elements take their oldest tokens is in turn in the mode `One` alone.
+pub oldest_in_turn : (mode : Mode) (R : Take → Type 0) → (mode ≡ Mode.One → R Oldest) → (way : Take) → order_of mode Oldest ≡ Order.InTurn way → R way
+oldest_in_turn Mode.One R h way e = subst R (same_take (Order.InTurn Oldest) Oldest way refl e) (h refl)
+oldest_in_turn Mode.Rounds R h way e = absurd (let no : ⊥ = cc in no)
+oldest_in_turn Mode.Free R h way e = absurd (let no : ⊥ = cc in no)
+
+-- In each order: only where the elements take turns on one thread is the order known.
+pub reports_in : (order : Order) (text : List ℕ) (g : Graph) (bytes : List ℕ) (inputs : List ℤ) (c : Config) (may_stop : Bool) (r : Report)
+    → IsCompiled text g bytes → ShowsObject bytes inputs c false (stops_in order may_stop) r
+    → ((way : Take) → order ≡ Order.InTurn way → RunsObject bytes inputs c (RunsByTurns way) r) → ReportsTruthIn order text g inputs c may_stop r
+reports_in (Order.InTurn way) text g bytes inputs c may_stop r compiled shown runs =
+    reports_in_turn way text g bytes inputs c r compiled shown (runs way refl)
+reports_in Order.InRounds text g bytes inputs c may_stop r compiled shown runs = reports_truth text g bytes inputs c false may_stop r compiled shown
+reports_in Order.Free text g bytes inputs c may_stop r compiled shown runs = reports_truth text g bytes inputs c false may_stop r compiled shown
 
 -- So does a report that lists no events.
-pub reports_quietly : (mode : Mode) (text : List ℕ) (g : Graph) (bytes : List ℕ) (inputs : List ℤ) (c : Config) (may_stop : Bool) (r : Report)
-    → IsCompiled text g bytes → Quietly (ShowsObjectIn mode bytes inputs c may_stop) r → ReportsQuietly mode text g inputs c may_stop r
-reports_quietly Mode.One text g bytes inputs c may_stop r compiled (none, events, shown) =
-    ((shown.0).good, (shown.0).some_frame, (none, events, reports_in_turn text g bytes inputs c (with_events r events) compiled shown.0 shown.1))
-reports_quietly Mode.Rounds text g bytes inputs c may_stop r compiled (none, events, shown) =
+pub reports_quietly : (order : Order) (text : List ℕ) (g : Graph) (bytes : List ℕ) (inputs : List ℤ) (c : Config) (may_stop : Bool) (r : Report)
+    → IsCompiled text g bytes → Quietly (ShowsObjectIn order bytes inputs c may_stop) r → ReportsQuietly order text g inputs c may_stop r
+reports_quietly (Order.InTurn way) text g bytes inputs c may_stop r compiled (none, events, shown) =
+    ((shown.0).good, (shown.0).some_frame, (none, events, reports_in_turn way text g bytes inputs c (with_events r events) compiled shown.0 shown.1))
+reports_quietly Order.InRounds text g bytes inputs c may_stop r compiled (none, events, shown) =
     (shown.good, shown.some_frame, (none, events, reports_truth text g bytes inputs c false may_stop (with_events r events) compiled shown))
-reports_quietly Mode.Free text g bytes inputs c may_stop r compiled (none, events, shown) =
+reports_quietly Order.Free text g bytes inputs c may_stop r compiled (none, events, shown) =
     (shown.good, shown.some_frame, (none, events, reports_truth text g bytes inputs c false may_stop (with_events r events) compiled shown))
 
 -- and a run of the graph's object with the moments of its events
-pub is_watched : (mode : Mode) (text : List ℕ) (g : Graph) (bytes : List ℕ) (inputs : List ℤ) (c : Config) (may_stop : Bool) (r : Report)
+pub is_watched : (order : Order) (text : List ℕ) (g : Graph) (bytes : List ℕ) (inputs : List ℤ) (c : Config) (may_stop : Bool) (r : Report)
     (moments : List Moment)
-    → IsCompiled text g bytes → ShowsObject bytes inputs c false (stops_in mode may_stop) r → (mode ≡ Mode.One → RunsObject bytes inputs c RunsByTurns r)
-    → AreMoments bytes inputs c r moments → IsWatched mode text g bytes inputs c may_stop r moments
-is_watched mode text g bytes inputs c may_stop r moments compiled shown runs seen = record {
-  lists = record { compiled = compiled; truth = reports_in mode text g bytes inputs c may_stop r compiled shown runs; shows = shown };
+    → IsCompiled text g bytes → ShowsObject bytes inputs c false (stops_in order may_stop) r
+    → ((way : Take) → order ≡ Order.InTurn way → RunsObject bytes inputs c (RunsByTurns way) r)
+    → AreMoments bytes inputs c r moments → IsWatched order text g bytes inputs c may_stop r moments
+is_watched order text g bytes inputs c may_stop r moments compiled shown runs seen = record {
+  lists = record { compiled = compiled; truth = reports_in order text g bytes inputs c may_stop r compiled shown runs; shows = shown };
   seen = seen;
 }
 
 pub is_watched_in_rounds : (text : List ℕ) (g : Graph) (bytes : List ℕ) (inputs : List ℤ) (c : Config) (may_stop : Bool) (r : Report) (moments : List Moment)
     → IsCompiled text g bytes → ShowsObject bytes inputs c false may_stop r → AreMoments bytes inputs c r moments
-    → IsWatched Mode.Rounds text g bytes inputs c may_stop r moments
+    → IsWatched Order.InRounds text g bytes inputs c may_stop r moments
 is_watched_in_rounds text g bytes inputs c may_stop r moments compiled shown seen =
-    is_watched Mode.Rounds text g bytes inputs c may_stop r moments compiled shown (λ one. absurd (let no : ⊥ = cc in no)) seen
+    is_watched Order.InRounds text g bytes inputs c may_stop r moments compiled shown (λ way one. absurd (let no : ⊥ = cc in no)) seen

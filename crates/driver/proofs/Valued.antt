@@ -6,7 +6,7 @@ use Rattle.semantics.specs.Machine.{Size}
 use Rattle.semantics.specs.Report.{Report}
 use Rattle.schedule.specs.declared.config.Config.{Config}
 use Rattle.schedule.specs.Unlisted.{with_events}
-use Rattle.command_line.specs.declared.Mode.{Mode}
+use Rattle.driver.specs.declared.order.Order.{Order}
 use Rattle.law_confluence.proofs.Equations.{runs_at_rest}
 use Rattle.law_confluence.proofs.EquationsNoneWaits.{none_waits}
 use Rattle.driver.specs.Headline.{ReportsOf, ReportsTruthIn, ReportsQuietly}
@@ -25,15 +25,15 @@ reports_values text g inputs z steps by_list may_stop r t rest none =
           (λ x. o.no_clash o.state x o.reached) (none_waits (flow_of g) o.state.tokens (sym o.deferred ∙ none));
     }
 
-pub modes_have : (mode : Mode) (text : List ℕ) (g : Graph) (inputs : List ℤ) (c : Config) (may_stop : Bool) (r : Report)
-    → ReportsTruthIn mode text g inputs c may_stop r → r.end ≡ Rest → r.deferred ≡ 0 → ReportsValues (flow_of g) inputs r
-modes_have Mode.One text g inputs c may_stop r t = reports_values text g inputs _ _ _ _ r t.0
-modes_have Mode.Rounds text g inputs c may_stop r t = reports_values text g inputs _ _ _ _ r t
-modes_have Mode.Free text g inputs c may_stop r t = reports_values text g inputs _ _ _ _ r t
+pub modes_have : (order : Order) (text : List ℕ) (g : Graph) (inputs : List ℤ) (c : Config) (may_stop : Bool) (r : Report)
+    → ReportsTruthIn order text g inputs c may_stop r → r.end ≡ Rest → r.deferred ≡ 0 → ReportsValues (flow_of g) inputs r
+modes_have (Order.InTurn take) text g inputs c may_stop r t = reports_values text g inputs _ _ _ _ r t.0
+modes_have Order.InRounds text g inputs c may_stop r t = reports_values text g inputs _ _ _ _ r t
+modes_have Order.Free text g inputs c may_stop r t = reports_values text g inputs _ _ _ _ r t
 
 -- the events of a report have no part in it
-pub quiet_reports : (mode : Mode) (text : List ℕ) (g : Graph) (inputs : List ℤ) (c : Config) (may_stop : Bool) (r : Report)
-    → ReportsQuietly mode text g inputs c may_stop r → r.end ≡ Rest → r.deferred ≡ 0 → ReportsValues (flow_of g) inputs r
-quiet_reports mode text g inputs c may_stop r t rest none =
-    let v = modes_have mode text g inputs c may_stop (with_events r t.2.1) t.2.2 rest none in
+pub quiet_reports : (order : Order) (text : List ℕ) (g : Graph) (inputs : List ℤ) (c : Config) (may_stop : Bool) (r : Report)
+    → ReportsQuietly order text g inputs c may_stop r → r.end ≡ Rest → r.deferred ≡ 0 → ReportsValues (flow_of g) inputs r
+quiet_reports order text g inputs c may_stop r t rest none =
+    let v = modes_have order text g inputs c may_stop (with_events r t.2.1) t.2.2 rest none in
     record { run = v.run; state = v.state; is_run = v.is_run; shown = record { outputs = v.shown.outputs; cells = v.shown.cells }; settled = v.settled }

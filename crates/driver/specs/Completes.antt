@@ -5,7 +5,7 @@ use Rattle.semantics.specs.Graph.{Graph, flow_of}
 use Rattle.semantics.specs.Machine.{Size}
 use Rattle.semantics.specs.Report.{Report}
 use Rattle.schedule.specs.declared.config.Config.{Config}
-use Rattle.command_line.specs.declared.Mode.{Mode}
+use Rattle.driver.specs.declared.order.Order.{Order}
 use Rattle.law_compiler.specs.Objects.{plan_of}
 use Rattle.law_completion.specs.Total.{IsNotCut, Completes}
 use Rattle.law_completion.specs.TotalGraph.{NeedsAtMost, IsLargeEnough}
@@ -21,16 +21,16 @@ ReportsComplete = (text : List ℕ) (g : Graph) (inputs : List ℤ) (z : Size) (
     → ReportsOf text g inputs z steps by_list may_stop r → (d t : ℕ) → NeedsAtMost g inputs d t → IsLargeEnough g (plan_of g).program z steps d t
     → IsNotCut by_list r → Completes r
 
--- So it is in each mode,
+-- So it is in each order,
 abbrev pub ModesComplete : Type 0
-ModesComplete = (mode : Mode) (text : List ℕ) (g : Graph) (inputs : List ℤ) (c : Config) (may_stop : Bool) (r : Report)
-    → ReportsTruthIn mode text g inputs c may_stop r → (d t : ℕ) → NeedsAtMost g inputs d t
+ModesComplete = (order : Order) (text : List ℕ) (g : Graph) (inputs : List ℤ) (c : Config) (may_stop : Bool) (r : Report)
+    → ReportsTruthIn order text g inputs c may_stop r → (d t : ℕ) → NeedsAtMost g inputs d t
     → IsLargeEnough g (plan_of g).program (size_of c) c.steps d t → IsNotCut false r → Completes r
 
 -- and where the report lists no events.
 abbrev pub QuietReportsComplete : Type 0
-QuietReportsComplete = (mode : Mode) (text : List ℕ) (g : Graph) (inputs : List ℤ) (c : Config) (may_stop : Bool) (r : Report)
-    → ReportsQuietly mode text g inputs c may_stop r → (d t : ℕ) → NeedsAtMost g inputs d t
+QuietReportsComplete = (order : Order) (text : List ℕ) (g : Graph) (inputs : List ℤ) (c : Config) (may_stop : Bool) (r : Report)
+    → ReportsQuietly order text g inputs c may_stop r → (d t : ℕ) → NeedsAtMost g inputs d t
     → IsLargeEnough g (plan_of g).program (size_of c) c.steps d t → IsNotCut false r → Completes r
 
 -- LOOP BY LOOP. It is enough that no loop outgrows its bound: that each bound is at least the iterations of its own loop, in one invocation. So it is for a
@@ -40,16 +40,16 @@ OwnBoundsSuffice = (text : List ℕ) (g : Graph) (inputs : List ℤ) (z : Size) 
     → ReportsOf text g inputs z steps by_list may_stop r → (d t : ℕ) → NeedsAtMost g inputs d t → NoneOutgrows (flow_of g) inputs
     → HasSpace (plan_of g).program z steps d → IsNotCut by_list r → Completes r
 
--- in each mode,
+-- in each order,
 abbrev pub OwnBoundsSufficeIn : Type 0
-OwnBoundsSufficeIn = (mode : Mode) (text : List ℕ) (g : Graph) (inputs : List ℤ) (c : Config) (may_stop : Bool) (r : Report)
-    → ReportsTruthIn mode text g inputs c may_stop r → (d t : ℕ) → NeedsAtMost g inputs d t → NoneOutgrows (flow_of g) inputs
+OwnBoundsSufficeIn = (order : Order) (text : List ℕ) (g : Graph) (inputs : List ℤ) (c : Config) (may_stop : Bool) (r : Report)
+    → ReportsTruthIn order text g inputs c may_stop r → (d t : ℕ) → NeedsAtMost g inputs d t → NoneOutgrows (flow_of g) inputs
     → HasSpace (plan_of g).program (size_of c) c.steps d → IsNotCut false r → Completes r
 
 -- and where the report lists no events.
 abbrev pub OwnBoundsSufficeQuietly : Type 0
-OwnBoundsSufficeQuietly = (mode : Mode) (text : List ℕ) (g : Graph) (inputs : List ℤ) (c : Config) (may_stop : Bool) (r : Report)
-    → ReportsQuietly mode text g inputs c may_stop r → (d t : ℕ) → NeedsAtMost g inputs d t → NoneOutgrows (flow_of g) inputs
+OwnBoundsSufficeQuietly = (order : Order) (text : List ℕ) (g : Graph) (inputs : List ℤ) (c : Config) (may_stop : Bool) (r : Report)
+    → ReportsQuietly order text g inputs c may_stop r → (d t : ℕ) → NeedsAtMost g inputs d t → NoneOutgrows (flow_of g) inputs
     → HasSpace (plan_of g).program (size_of c) c.steps d → IsNotCut false r → Completes r
 
 -- WHICH ORDERS. It is enough that some run of the meaning to its end keeps each loop within its bound. So it is for a report of a run in any order,
@@ -58,14 +58,14 @@ KeptOrderSuffices = (text : List ℕ) (g : Graph) (inputs : List ℤ) (z : Size)
     → ReportsOf text g inputs z steps by_list may_stop r → (d t : ℕ) → NeedsAtMost g inputs d t → SomeKeepsWithin (flow_of g) inputs
     → HasSpace (plan_of g).program z steps d → IsNotCut by_list r → Completes r
 
--- in each mode,
+-- in each order,
 abbrev pub KeptOrderSufficesIn : Type 0
-KeptOrderSufficesIn = (mode : Mode) (text : List ℕ) (g : Graph) (inputs : List ℤ) (c : Config) (may_stop : Bool) (r : Report)
-    → ReportsTruthIn mode text g inputs c may_stop r → (d t : ℕ) → NeedsAtMost g inputs d t → SomeKeepsWithin (flow_of g) inputs
+KeptOrderSufficesIn = (order : Order) (text : List ℕ) (g : Graph) (inputs : List ℤ) (c : Config) (may_stop : Bool) (r : Report)
+    → ReportsTruthIn order text g inputs c may_stop r → (d t : ℕ) → NeedsAtMost g inputs d t → SomeKeepsWithin (flow_of g) inputs
     → HasSpace (plan_of g).program (size_of c) c.steps d → IsNotCut false r → Completes r
 
 -- and where the report lists no events.
 abbrev pub KeptOrderSufficesQuietly : Type 0
-KeptOrderSufficesQuietly = (mode : Mode) (text : List ℕ) (g : Graph) (inputs : List ℤ) (c : Config) (may_stop : Bool) (r : Report)
-    → ReportsQuietly mode text g inputs c may_stop r → (d t : ℕ) → NeedsAtMost g inputs d t → SomeKeepsWithin (flow_of g) inputs
+KeptOrderSufficesQuietly = (order : Order) (text : List ℕ) (g : Graph) (inputs : List ℤ) (c : Config) (may_stop : Bool) (r : Report)
+    → ReportsQuietly order text g inputs c may_stop r → (d t : ℕ) → NeedsAtMost g inputs d t → SomeKeepsWithin (flow_of g) inputs
     → HasSpace (plan_of g).program (size_of c) c.steps d → IsNotCut false r → Completes r

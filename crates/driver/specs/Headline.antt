@@ -13,9 +13,10 @@ use Rattle.semantics.specs.Machine.{Size}
 use Rattle.semantics.specs.Faithful.{Faithful, IsSecondStore, inputs_of, largest}
 use Rattle.semantics.specs.Report.{Report, Shows, sum_below}
 use Rattle.schedule.specs.declared.config.Config.{Config}
+use Rattle.schedule.specs.declared.take.Take.{Take}
 use Rattle.schedule.specs.Starts.{IsGood}
 use Rattle.schedule.specs.Unlisted.{Quietly}
-use Rattle.command_line.specs.declared.Mode.{Mode}
+use Rattle.driver.specs.declared.order.Order.{Order}
 use Rattle.driver.specs.Compiled.{IsCodeFor}
 use Rattle.driver.specs.Orders.{size_of, RunsByTurns, RunsByList}
 
@@ -76,9 +77,9 @@ pub record ReportsOf (text : List ℕ) (g : Graph) (inputs : List ℤ) (z : Size
   pub shows : Shows code.program z inputs steps by_list may_stop r
   pub truth : ReportsMeaning (flow_of g) inputs code.program r
 
--- THE HEADLINE, of a run in which each element in turn takes its oldest token
-abbrev pub ReportsTruth : List ℕ → Graph → List ℤ → Config → Report → Type 0
-ReportsTruth text g inputs c r = (truth : ReportsOf text g inputs (size_of c) c.steps false false r) × RunsByTurns truth.code.program c inputs r
+-- THE HEADLINE, of a run in which the elements take turns, each with its oldest token, or so that few frames are needed
+abbrev pub ReportsTruth : Take → List ℕ → Graph → List ℤ → Config → Report → Type 0
+ReportsTruth take text g inputs c r = (truth : ReportsOf text g inputs (size_of c) c.steps false false r) × RunsByTurns take truth.code.program c inputs r
 
 -- and of a run in the order of a list of elements and picks
 abbrev pub ReportsTruthByList : List ℕ → Graph → List ℤ → Config → List (ℕ × ℕ) → Report → Type 0
@@ -88,18 +89,18 @@ ReportsTruthByList text g inputs c picks r = (truth : ReportsOf text g inputs (s
 abbrev pub ReportsTruthInThreads : List ℕ → Graph → List ℤ → Config → Bool → Report → Type 0
 ReportsTruthInThreads text g inputs c may_stop r = ReportsOf text g inputs (size_of c) c.steps false may_stop r
 
--- in each mode
-abbrev pub ReportsTruthIn : Mode → List ℕ → Graph → List ℤ → Config → Bool → Report → Type 0
-ReportsTruthIn Mode.One text g inputs c may_stop r = ReportsTruth text g inputs c r
-ReportsTruthIn Mode.Rounds text g inputs c may_stop r = ReportsTruthInThreads text g inputs c may_stop r
-ReportsTruthIn Mode.Free text g inputs c may_stop r = ReportsTruthInThreads text g inputs c may_stop r
+-- in each order
+abbrev pub ReportsTruthIn : Order → List ℕ → Graph → List ℤ → Config → Bool → Report → Type 0
+ReportsTruthIn (Order.InTurn take) text g inputs c may_stop r = ReportsTruth take text g inputs c r
+ReportsTruthIn Order.InRounds text g inputs c may_stop r = ReportsTruthInThreads text g inputs c may_stop r
+ReportsTruthIn Order.Free text g inputs c may_stop r = ReportsTruthInThreads text g inputs c may_stop r
 
 -- only threads ask the gate
-abbrev pub stops_in : Mode → Bool → Bool
-stops_in Mode.One may_stop = false
-stops_in Mode.Rounds may_stop = may_stop
-stops_in Mode.Free may_stop = may_stop
+abbrev pub stops_in : Order → Bool → Bool
+stops_in (Order.InTurn take) may_stop = false
+stops_in Order.InRounds may_stop = may_stop
+stops_in Order.Free may_stop = may_stop
 
--- RUNS OF ANY LENGTH, whose report lists no events: with those of some run it says what a report that lists them says in this mode.
-abbrev pub ReportsQuietly : Mode → List ℕ → Graph → List ℤ → Config → Bool → Report → Type 0
-ReportsQuietly mode text g inputs c may_stop r = IsGood c × (0 < c.frames) × Quietly (ReportsTruthIn mode text g inputs c may_stop) r
+-- RUNS OF ANY LENGTH, whose report lists no events: with those of some run it says what a report that lists them says in this order.
+abbrev pub ReportsQuietly : Order → List ℕ → Graph → List ℤ → Config → Bool → Report → Type 0
+ReportsQuietly order text g inputs c may_stop r = IsGood c × (0 < c.frames) × Quietly (ReportsTruthIn order text g inputs c may_stop) r

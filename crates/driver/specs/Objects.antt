@@ -8,7 +8,7 @@ use Rattle.schedule.specs.declared.config.Config.{Config}
 use Rattle.schedule.specs.Setting.{inputs_of as inputs_in_code}
 use Rattle.schedule.specs.Runs.{SoFar}
 use Rattle.schedule.specs.Starts.{IsGood, Opens}
-use Rattle.command_line.specs.declared.Mode.{Mode}
+use Rattle.driver.specs.declared.order.Order.{Order}
 use Rattle.driver.specs.Orders.{size_of, RunsByTurns}
 
 -- The bytes are an object, and the machine is at its start on the code of it.
@@ -43,9 +43,9 @@ pub record RunsObject (bytes : List ℕ) (inputs : List ℤ) (c : Config) (Order
   pub object : IsObject bytes version code
   pub ordered : Ordered code.program c inputs r
 
--- The report is of a run of the object in this mode: only where the elements take turns on one thread is the order promised, and no
+-- The report is of a run of the object in this order: only where the elements take turns on one thread is the order promised, and no
 -- gate asked.
-abbrev pub ShowsObjectIn : Mode → List ℕ → List ℤ → Config → Bool → Report → Type 0
-ShowsObjectIn Mode.One bytes inputs c may_stop r = ShowsObject bytes inputs c false false r × RunsObject bytes inputs c RunsByTurns r
-ShowsObjectIn Mode.Rounds bytes inputs c may_stop r = ShowsObject bytes inputs c false may_stop r
-ShowsObjectIn Mode.Free bytes inputs c may_stop r = ShowsObject bytes inputs c false may_stop r
+abbrev pub ShowsObjectIn : Order → List ℕ → List ℤ → Config → Bool → Report → Type 0
+ShowsObjectIn (Order.InTurn take) bytes inputs c may_stop r = ShowsObject bytes inputs c false false r × RunsObject bytes inputs c (RunsByTurns take) r
+ShowsObjectIn Order.InRounds bytes inputs c may_stop r = ShowsObject bytes inputs c false may_stop r
+ShowsObjectIn Order.Free bytes inputs c may_stop r = ShowsObject bytes inputs c false may_stop r

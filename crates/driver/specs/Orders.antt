@@ -1,12 +1,17 @@
 -- In which order the steps of a run are taken.
-use Rattle.std.specs.Prelude.{◌≡◌, ℕ, Bool, true, false, ℤ, List}
+use Rattle.std.specs.Prelude.{◌≡◌, ℕ, Bool, true, false, ℤ, List, Option}
 use Rattle.semantics.specs.Program.{Program}
 use Rattle.semantics.specs.Machine.{Size, Events}
 use Rattle.semantics.specs.Report.{Report}
 use Rattle.schedule.specs.declared.config.Config.{Config}
 use Rattle.schedule.specs.declared.halt.Halt.{Halt}
+use Rattle.schedule.specs.declared.take.Take.{Take}
+use Rattle.schedule.specs.declared.take.Take.TheVariants.{Oldest, Depth}
+use Rattle.command_line.specs.declared.Mode.{Mode}
+use Rattle.driver.specs.declared.order.Order.{Order}
 use Rattle.schedule.specs.Starts.{Opens}
 use Rattle.schedule.specs.Runs.{SoFar, Plays, rounds_of}
+use Rattle.schedule.specs.Turns.{AreInTurn, PlaysTurns}
 use Rattle.schedule.specs.Reported.{IsReportOf}
 use Rattle.rounds.specs.Counted.{ReportsRounds}
 
@@ -28,9 +33,24 @@ pub record RunsBy (p : Program) (c : Config) (inputs : List ℤ) (by_list : Bool
   pub events : last.events ≡ made
   pub reported : IsReportOf last halt r
 
--- the elements take turns, each with its oldest token
-abbrev pub RunsByTurns : Program → Config → List ℤ → Report → Type 0
-RunsByTurns p c inputs r = (rounds : ℕ) × RunsBy p c inputs false (rounds_of rounds c.elements) r
+-- The events are those that the elements make in turn, from the first on, where element 0 holds back requests for frames; the report is as above.
+pub record RunsByDepth (p : Program) (c : Config) (inputs : List ℤ) (r : Report) : Type 0 where
+  pub width : ℕ
+  pub start : SoFar
+  pub opens : Opens p width c inputs start
+  pub last : SoFar
+  pub halt : Halt
+  pub made : Events
+  pub turns : List (ℕ × Option ℕ)
+  pub in_turn : AreInTurn c.elements 0 turns
+  pub plays : PlaysTurns turns start.state last.state halt made
+  pub events : last.events ≡ made
+  pub reported : IsReportOf last halt r
+
+-- the elements take turns, each with its oldest token, or so that few frames are needed
+abbrev pub RunsByTurns : Take → Program → Config → List ℤ → Report → Type 0
+RunsByTurns Oldest p c inputs r = (rounds : ℕ) × RunsBy p c inputs false (rounds_of rounds c.elements) r
+RunsByTurns Depth p c inputs r = RunsByDepth p c inputs r
 
 -- the steps are taken in the order of this list
 abbrev pub RunsByList : List (ℕ × ℕ) → Program → Config → List ℤ → Report → Type 0
@@ -42,3 +62,9 @@ pub record RunsByRounds (may_stop : Bool) (rounds : ℕ) (p : Program) (c : Conf
   pub start : SoFar
   pub opens : Opens p width c inputs start
   pub truth : ReportsRounds true may_stop start rounds r
+
+-- the order of a mode; of the elements in turn, with this order of their tokens
+abbrev pub order_of : Mode → Take → Order
+order_of Mode.One take = Order.InTurn take
+order_of Mode.Rounds take = Order.InRounds
+order_of Mode.Free take = Order.Free

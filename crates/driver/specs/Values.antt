@@ -6,7 +6,7 @@ use Rattle.semantics.specs.Meaning.{State, Activity, Run, start}
 use Rattle.semantics.specs.Machine.{Size}
 use Rattle.semantics.specs.Report.{Report}
 use Rattle.schedule.specs.declared.config.Config.{Config}
-use Rattle.command_line.specs.declared.Mode.{Mode}
+use Rattle.driver.specs.declared.order.Order.{Order}
 use Rattle.law_confluence.specs.EquationsSettled.{Settled}
 use Rattle.driver.specs.Headline.{ShowsMemory, ReportsOf, ReportsTruthIn, ReportsQuietly}
 
@@ -23,12 +23,12 @@ abbrev pub ReportsHaveValues : Type 0
 ReportsHaveValues = (text : List ℕ) (g : Graph) (inputs : List ℤ) (z : Size) (steps : ℕ) (by_list may_stop : Bool) (r : Report)
     → ReportsOf text g inputs z steps by_list may_stop r → r.end ≡ Rest → r.deferred ≡ 0 → ReportsValues (flow_of g) inputs r
 
--- in each mode,
+-- in each order,
 abbrev pub ModesHaveValues : Type 0
-ModesHaveValues = (mode : Mode) (text : List ℕ) (g : Graph) (inputs : List ℤ) (c : Config) (may_stop : Bool) (r : Report)
-    → ReportsTruthIn mode text g inputs c may_stop r → r.end ≡ Rest → r.deferred ≡ 0 → ReportsValues (flow_of g) inputs r
+ModesHaveValues = (order : Order) (text : List ℕ) (g : Graph) (inputs : List ℤ) (c : Config) (may_stop : Bool) (r : Report)
+    → ReportsTruthIn order text g inputs c may_stop r → r.end ≡ Rest → r.deferred ≡ 0 → ReportsValues (flow_of g) inputs r
 
 -- and where the report lists no events.
 abbrev pub QuietReportsHaveValues : Type 0
-QuietReportsHaveValues = (mode : Mode) (text : List ℕ) (g : Graph) (inputs : List ℤ) (c : Config) (may_stop : Bool) (r : Report)
-    → ReportsQuietly mode text g inputs c may_stop r → r.end ≡ Rest → r.deferred ≡ 0 → ReportsValues (flow_of g) inputs r
+QuietReportsHaveValues = (order : Order) (text : List ℕ) (g : Graph) (inputs : List ℤ) (c : Config) (may_stop : Bool) (r : Report)
+    → ReportsQuietly order text g inputs c may_stop r → r.end ≡ Rest → r.deferred ≡ 0 → ReportsValues (flow_of g) inputs r

@@ -3,6 +3,7 @@
 ghost use Rattle.driver.specs.Completes.{ReportsComplete, ModesComplete, QuietReportsComplete};
 ghost use Rattle.driver.specs.Completes.{OwnBoundsSuffice, OwnBoundsSufficeIn, OwnBoundsSufficeQuietly};
 ghost use Rattle.driver.specs.Completes.{KeptOrderSuffices, KeptOrderSufficesIn, KeptOrderSufficesQuietly};
+ghost use Rattle.driver.specs.Needs.{FramesAreNotWanted, FramesAreNotWantedInModes, FramesAreNotWantedQuietly};
 ghost use Rattle.driver.specs.Needs.{NeedsSuffice, NeedsSufficeInModes, NeedsSufficeQuietly};
 
 /// A report of a run over a machine that is large enough for what the graph's meaning calls for ends at rest with no deferred reader, in any order of
@@ -45,4 +46,13 @@ pub fn needs_suffice()
     ensures reports { NeedsSuffice }
     ensures modes { NeedsSufficeInModes }
     ensures quiet { NeedsSufficeQuietly }
+{}
+
+/// With a frame for main and one for each invocation that one run of the meaning calls for, no request for a frame waits when a run ends.
+///
+/// So it is of each end, in every order: with the frames that `needs::enough_frames` gives a run may starve for credits, and never for frames.
+pub fn frames_are_not_wanted()
+    ensures reports { FramesAreNotWanted }
+    ensures modes { FramesAreNotWantedInModes }
+    ensures quiet { FramesAreNotWantedQuietly }
 {}

@@ -2,15 +2,21 @@
 
 ghost use Rattle.std.specs.Prelude.{◌≡◌, ◌<◌, All, IfOk, MatchResult, true, false};
 ghost use Rattle.semantics.specs.Graph as Graphs;
-ghost use Rattle.driver.specs.Refused.{IsReady, IsRefused, IsRefusedObject};
+ghost use Rattle.driver.specs.Refused.{IsGoodText, IsReady, IsRefused, IsRefusedObject};
+ghost use Rattle.driver.specs.Needs.{AreEnough};
 ghost use Rattle.command_line.specs.declared.Mode.{Mode};
 ghost use Rattle.driver.specs.Headline.{ReportsTruthIn, ReportsTruthByList, ReportsQuietly, stops_in};
+ghost use Rattle.schedule.specs.declared.take.Take.{Take};
+ghost use Rattle.schedule.specs.declared.take.Take.TheVariants.{Oldest};
+ghost use Rattle.driver.specs.declared.order.Order.{Order};
 ghost use Rattle.schedule.specs.Unlisted.{Quietly};
 ghost use Rattle.driver.specs.Objects.{ShowsObject, ShowsObjectIn, RunsObject};
-ghost use Rattle.driver.specs.Orders.{RunsByTurns, RunsByList};
+ghost use Rattle.driver.specs.Orders.{RunsByTurns, RunsByList, order_of};
 
 use crate::compiling::{Compiled, compile};
 use crate::fault::Fault;
+use crate::needs::{EnoughFrames, enough_frames};
+use crate::order::Order;
 use crate::resources::Resources;
 use crate::running::{check_start, open_code, run_code, run_code_picks, run_code_quietly};
 use command_line::Mode;
@@ -19,6 +25,7 @@ use loaded::Loaded;
 use rounds::Gate;
 use schedule::config::Config;
 use schedule::report::Report;
+use schedule::take::Take;
 use std::alloc::Allocator;
 use std::sync::Wait;
 use std::thread::Threads;
@@ -28,6 +35,22 @@ use std::thread::Threads;
 pub struct Emulated<'a, A: Allocator> {
     pub checked: Checked<'a, A>,
     pub report: Report<A>,
+}
+
+/// The report of a run, in the given order, of the object with these bytes.
+pub fn run_object<R: Threads + Wait + Sync, A: Allocator + Clone + Send + Sync, G: Gate + Sync>(
+    resources: Resources<'_, A, R, G>,
+    bytes: &[u8],
+    inputs: &[i64],
+    config: Config,
+    order: Order,
+) -> Result<Report<A>, Fault>
+    ensures shows { MatchResult result (ShowsObject bytes.now inputs.now config false (stops_in order G.may_stop))
+        (IsRefusedObject bytes.now inputs.now config) }
+    ensures turns { (take : Take) → order ≡ Order.InTurn take → IfOk result (RunsObject bytes.now inputs.now config (RunsByTurns take)) }
+{
+    let code = open_code(&resources.alloc, bytes)?;
+    run_code(resources, &code, inputs, config, order)
 }
 
 /// The report of a run, in the given mode, of the object with these bytes. In the mode `One` the elements take turns, and each
@@ -41,16 +64,16 @@ pub fn emulate_object<R: Threads + Wait + Sync, A: Allocator + Clone + Send + Sy
     rt: &R,
     gate: &G,
 ) -> Result<Report<A>, Fault>
-    ensures shows { MatchResult result (ShowsObject bytes.now inputs.now config false (stops_in mode G.may_stop))
+    ensures shows { MatchResult result (ShowsObject bytes.now inputs.now config false (stops_in (order_of mode Oldest) G.may_stop))
         (IsRefusedObject bytes.now inputs.now config) }
-    ensures turns { mode ≡ Mode.One → IfOk result (RunsObject bytes.now inputs.now config RunsByTurns) }
+    ensures turns { mode ≡ Mode.One → IfOk result (RunsObject bytes.now inputs.now config (RunsByTurns Oldest)) }
 {
-    let code = open_code(&alloc, bytes)?;
-    run_code(Resources { alloc, rt, gate }, &code, inputs, config, mode)
+    let order = Order::in_mode(mode, Take::Oldest);
+    run_object(Resources { alloc, rt, gate }, bytes, inputs, config, order)
 }
 
-/// Like `emulate_object`, also in the order of the mode `One`, but the report lists no events, so a long run takes no more memory
-/// than a short one.
+/// Like `run_object`, also in the order of its events, but the report lists no events, so a long run takes no more memory than a
+/// short one.
 pub fn emulate_object_quietly<
     R: Threads + Wait + Sync,
     A: Allocator + Clone + Send + Sync,
@@ -60,12 +83,12 @@ pub fn emulate_object_quietly<
     bytes: &[u8],
     inputs: &[i64],
     config: Config,
-    mode: Mode,
+    order: Order,
 ) -> Result<Report<A>, Fault>
-    ensures { MatchResult result (Quietly (ShowsObjectIn mode bytes.now inputs.now config G.may_stop)) (IsRefusedObject bytes.now inputs.now config) }
+    ensures { MatchResult result (Quietly (ShowsObjectIn order bytes.now inputs.now config G.may_stop)) (IsRefusedObject bytes.now inputs.now config) }
 {
     let code = open_code(&resources.alloc, bytes)?;
-    run_code_quietly(resources, &code, inputs, config, mode)
+    run_code_quietly(resources, &code, inputs, config, order)
 }
 
 /// The report of a run, in the order of a list, of the object with these bytes. Each entry of the list names an element, and
@@ -100,20 +123,45 @@ pub fn start_text<A: Allocator + Clone>(
     Ok(())
 }
 
-/// Runs the text's graph in the given mode. Gives the graph, and a report that lists no events, so a long run takes no more
-/// memory than a short one. In the mode `One` the elements take turns, and each takes its oldest token.
+/// How many frames each element gets so that a run of the text's graph wants none, where one could start with this configuration, whose limit of steps is
+/// that of the activities of the meaning, too. An `Err` says what refuses it.
+pub fn enough_for_text<A: Allocator + Clone>(
+    alloc: A,
+    text: &[u8],
+    inputs: &[i64],
+    config: Config,
+) -> Result<EnoughFrames, Fault>
+    ensures { MatchResult result (λ frames. IsReady text.now inputs.now config
+        × (g : Graphs.Graph) × IsGoodText text.now g × AreEnough g inputs.now config.steps config.elements frames)
+        (IsRefused text.now inputs.now config) }
+{
+    let compiled = compile(alloc.clone()?, text)?;
+    let code = Loaded::new(alloc.clone()?, compiled.object.as_object())?;
+    check_start(alloc.clone()?, &code, inputs, config)?;
+    let frames = enough_frames(
+        alloc,
+        &compiled.checked,
+        inputs,
+        config.steps,
+        config.elements,
+    )?;
+    Ok(frames)
+}
+
+/// Runs the text's graph in the given order. Gives the graph, and a report that lists no events, so a long run takes no more
+/// memory than a short one.
 pub fn run_text<'a, R: Threads + Wait + Sync, A: Allocator + Clone + Send + Sync, G: Gate + Sync>(
     resources: Resources<'_, A, R, G>,
     text: &'a [u8],
     inputs: &[i64],
     config: Config,
-    mode: Mode,
+    order: Order,
 ) -> Result<Emulated<'a, A>, Fault>
-    ensures { MatchResult result (λ e. ReportsQuietly mode text.now e.checked inputs.now config G.may_stop e.report) (IsRefused text.now inputs.now config) }
+    ensures { MatchResult result (λ e. ReportsQuietly order text.now e.checked inputs.now config G.may_stop e.report) (IsRefused text.now inputs.now config) }
 {
     let Compiled { checked, object } = compile(resources.alloc.clone()?, text)?;
     let code = Loaded::new(resources.alloc.clone()?, object.as_object())?;
-    let report = run_code_quietly(resources, &code, inputs, config, mode)?;
+    let report = run_code_quietly(resources, &code, inputs, config, order)?;
     Ok(Emulated { checked, report })
 }
 
@@ -128,7 +176,7 @@ pub fn emulate<R: Threads + Wait + Sync, A: Allocator + Clone + Send + Sync, G: 
     rt: &R,
     gate: &G,
 ) -> Result<Report<A>, Fault>
-    ensures { MatchResult result (λ report. (g : Graphs.Graph) × ReportsTruthIn mode text.now g inputs.now config G.may_stop report)
+    ensures { MatchResult result (λ report. (g : Graphs.Graph) × ReportsTruthIn (order_of mode Oldest) text.now g inputs.now config G.may_stop report)
         (IsRefused text.now inputs.now config) }
 {
     let compiled = compile(alloc.clone()?, text)?;

@@ -11,6 +11,7 @@ pub mod meaning;
 pub mod modes;
 pub mod needs;
 pub mod objects;
+pub mod order;
 pub mod resources;
 pub mod running;
 pub mod values;

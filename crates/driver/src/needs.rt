@@ -1,8 +1,10 @@
 //! What a machine needs so that each run of a graph completes, whatever the order of its events.
 
-ghost use Rattle.std.specs.Prelude.{◌≡◌, ◌+◌, ◌^◌, ◌≤◌, IfOk, IfSome, IfNone};
+ghost use Rattle.std.specs.Prelude.{◌≡◌, ◌≢◌, ◌+◌, ◌^◌, ◌≤◌, ◌⊎◌, IfOk, IfSome, IfNone, length};
 ghost use Rattle.semantics.specs.Faithful.{largest};
-ghost use Rattle.driver.specs.Needs.{least_steps, AreNeedsOf, AreUntold};
+ghost use Rattle.oracle.specs.Lines.{inputs_at};
+ghost use Rattle.oracle.specs.Running.{main_place};
+ghost use Rattle.driver.specs.Needs.{least_steps, AreEnough, AreFramesFor, AreNeedsOf, AreUntold};
 
 use crate::compiling::plan;
 use code::{CodeBlock, Plan};
@@ -93,4 +95,51 @@ pub fn machine_needs<'a, A: Allocator + Clone>(
     };
     let plan = plan(&alloc, checked)?;
     Ok(needs_in(&plan, counts))
+}
+
+/// The most frames of an element.
+const FRAMES: u128 = 1_024;
+
+/// How many frames each element gets so that a run of a graph wants none, whatever the order of its events.
+#[derive(Clone, Copy, Debug, PartialEq, Eq)]
+pub enum EnoughFrames {
+    /// The least number with which all elements together have enough.
+    Each(u64),
+    /// All elements together would need this many, and cannot have them.
+    TooMany(u128),
+    /// No number is known: the meaning does not come to rest with no fetch waiting.
+    Untold,
+}
+
+/// The frames of each of these elements where a frame is wanted for main and for each of these invocations.
+fn frames_for(called: usize, elements: u64) -> EnoughFrames
+    ensures { AreFramesFor elements (1 + called) result }
+{
+    let frames = 1 + called as u128;
+    let elements = u128::from(elements);
+    if elements * FRAMES < frames {
+        return EnoughFrames::TooMany(frames);
+    }
+    EnoughFrames::Each(frames.div_ceil(elements) as u64)
+}
+
+/// The least number of frames for each of these elements with which no run of the graph on these inputs wants a frame, in whatever order, by a run of the
+/// meaning of at most `activities` activities.
+///
+/// Each element has at most 1024 frames. That no run wants one with this number: `completion::frames_are_not_wanted`.
+pub fn enough_frames<'a, A: Allocator + Clone>(
+    alloc: A,
+    checked: &Checked<'a, A>,
+    inputs: &[i64],
+    activities: u64,
+    elements: u64,
+) -> Result<EnoughFrames, AllocError>
+    ensures { IfOk result (λ frames. (length inputs.now ≢ inputs_at checked.now (main_place checked.now)) ⊎ AreEnough checked.now inputs.now activities
+        elements frames) }
+{
+    match call_counts(alloc, checked, inputs, activities) {
+        Ok(Some(counts)) => Ok(frames_for(counts.invocations, elements)),
+        Ok(None) | Err(MeanFault::WrongInputs) => Ok(EnoughFrames::Untold),
+        Err(MeanFault::Memory) => Err(AllocError),
+    }
 }

@@ -1,9 +1,10 @@
 //! Runs of an object that was opened. Its code is made ready once, and any number of runs start on it.
 
 ghost use Rattle.std.specs.Prelude.{◌≡◌, ◌<◌, All, IfOk, MatchResult, true, false};
-ghost use Rattle.command_line.specs.declared.Mode.{Mode};
 ghost use Rattle.object_view.specs.Reading.{opened};
+ghost use Rattle.schedule.specs.declared.take.Take.{Take};
 ghost use Rattle.schedule.specs.Unlisted.{Quietly};
+ghost use Rattle.driver.specs.declared.order.Order.{Order};
 ghost use Rattle.driver.specs.Disassembled.{IsOpened};
 ghost use Rattle.driver.specs.Headline.{stops_in};
 ghost use Rattle.driver.specs.Objects.{ShowsObject, ShowsObjectIn, RunsObject, StartsObject};
@@ -12,8 +13,8 @@ ghost use Rattle.driver.specs.Refused.{IsNoObject, IsReadyObject, IsRefusedObjec
 
 use crate::fault::Fault;
 use crate::modes::{run_in, run_quietly_in};
+use crate::order::Order;
 use crate::resources::Resources;
-use command_line::Mode;
 use frame_store::store::Store;
 use loaded::Loaded;
 use object_view::Object;
@@ -68,26 +69,25 @@ pub fn check_start<A: Allocator + Clone>(
     Ok(())
 }
 
-/// The report of a run of the object in the given mode. In the mode `One` the elements take turns, and each takes its oldest
-/// token.
+/// The report of a run of the object in the given order.
 pub fn run_code<R: Threads + Wait + Sync, A: Allocator + Clone + Send + Sync, G: Gate + Sync>(
     resources: Resources<'_, A, R, G>,
     code: &Loaded<'_, A>,
     inputs: &[i64],
     config: Config,
-    mode: Mode,
+    order: Order,
 ) -> Result<Report<A>, Fault>
-    ensures shows { MatchResult result (ShowsObject code.now.bytes inputs.now config false (stops_in mode G.may_stop))
+    ensures shows { MatchResult result (ShowsObject code.now.bytes inputs.now config false (stops_in order G.may_stop))
         (IsRefusedObject code.now.bytes inputs.now config) }
-    ensures turns { mode ≡ Mode.One → IfOk result (RunsObject code.now.bytes inputs.now config RunsByTurns) }
+    ensures turns { (take : Take) → order ≡ Order.InTurn take → IfOk result (RunsObject code.now.bytes inputs.now config (RunsByTurns take)) }
 {
     let Resources { alloc, rt, gate } = resources;
     let mut store = None;
     let machine = start_code(alloc, &mut store, code, inputs, config)?;
-    Ok(run_in(machine, mode, rt, gate))
+    Ok(run_in(machine, order, rt, gate))
 }
 
-/// Like `run_code`, also in the order of the mode `One`, but the report lists no events, so a long run takes no more memory than
+/// Like `run_code`, also in the order of its events, but the report lists no events, so a long run takes no more memory than
 /// a short one.
 pub fn run_code_quietly<
     R: Threads + Wait + Sync,
@@ -98,14 +98,14 @@ pub fn run_code_quietly<
     code: &Loaded<'_, A>,
     inputs: &[i64],
     config: Config,
-    mode: Mode,
+    order: Order,
 ) -> Result<Report<A>, Fault>
-    ensures { MatchResult result (Quietly (ShowsObjectIn mode code.now.bytes inputs.now config G.may_stop)) (IsRefusedObject code.now.bytes inputs.now config) }
+    ensures { MatchResult result (Quietly (ShowsObjectIn order code.now.bytes inputs.now config G.may_stop)) (IsRefusedObject code.now.bytes inputs.now config) }
 {
     let Resources { alloc, rt, gate } = resources;
     let mut store = None;
     let machine = start_code(alloc, &mut store, code, inputs, config)?;
-    Ok(run_quietly_in(machine, mode, rt, gate))
+    Ok(run_quietly_in(machine, order, rt, gate))
 }
 
 /// The report of a run of the object in the order of a list. Each entry of the list names an element, and one of its tokens by

@@ -1,7 +1,8 @@
 //! Runs of an object that also say what each of their events did.
 
 ghost use Rattle.std.specs.Prelude.{◌≡◌, Bool, false, IfOk, MatchResult};
-ghost use Rattle.command_line.specs.declared.Mode.{Mode};
+ghost use Rattle.schedule.specs.declared.take.Take.{Take};
+ghost use Rattle.driver.specs.declared.order.Order.{Order};
 ghost use Rattle.driver.specs.Headline.{stops_in};
 ghost use Rattle.driver.specs.ListedEvents.{AreMoments};
 ghost use Rattle.driver.specs.Objects.{ShowsObject, RunsObject};
@@ -9,9 +10,9 @@ ghost use Rattle.driver.specs.Orders.{RunsByTurns, RunsByRounds};
 ghost use Rattle.driver.specs.Refused.{IsRefusedObject};
 
 use crate::fault::Fault;
+use crate::order::Order;
 use crate::resources::Resources;
 use crate::running::{run_code, run_code_counted};
-use command_line::Mode;
 use loaded::Loaded;
 use object_view::OwnedObject;
 use replay::{Moment, ReplayRefusal, replay};
@@ -54,22 +55,21 @@ fn moments_of<A: Allocator + Clone>(
     }
 }
 
-/// Runs the object in the given mode, lists the events, and says what each of them did. In the mode `One` the elements take turns,
-/// and each takes its oldest token.
+/// Runs the object in the given order, lists the events, and says what each of them did.
 pub fn watch_code<R: Threads + Wait + Sync, A: Allocator + Clone + Send + Sync, G: Gate + Sync>(
     resources: Resources<'_, A, R, G>,
     code: &Loaded<'_, A>,
     inputs: &[i64],
     config: Config,
-    mode: Mode,
+    order: Order,
 ) -> Result<Watched<A>, Fault>
-    ensures shows { MatchResult result (λ w. ShowsObject code.now.bytes inputs.now config false (stops_in mode G.may_stop) w.report)
+    ensures shows { MatchResult result (λ w. ShowsObject code.now.bytes inputs.now config false (stops_in order G.may_stop) w.report)
         (IsRefusedObject code.now.bytes inputs.now config) }
-    ensures turns { mode ≡ Mode.One → IfOk result (λ w. RunsObject code.now.bytes inputs.now config RunsByTurns w.report) }
+    ensures turns { (take : Take) → order ≡ Order.InTurn take → IfOk result (λ w. RunsObject code.now.bytes inputs.now config (RunsByTurns take) w.report) }
     ensures moments { IfOk result (λ w. AreMoments code.now.bytes inputs.now config w.report w.moments.items) }
 {
     let alloc = resources.alloc.clone()?;
-    let report = run_code(resources, code, inputs, config, mode)?;
+    let report = run_code(resources, code, inputs, config, order)?;
     let moments = moments_of(alloc, code, inputs, config, &report)?;
     Ok(Watched { report, moments })
 }
@@ -80,15 +80,15 @@ pub fn watch_object<R: Threads + Wait + Sync, A: Allocator + Clone + Send + Sync
     object: &OwnedObject<A>,
     inputs: &[i64],
     config: Config,
-    mode: Mode,
+    order: Order,
 ) -> Result<Watched<A>, Fault>
-    ensures shows { MatchResult result (λ w. ShowsObject object.now.bytes inputs.now config false (stops_in mode G.may_stop) w.report)
+    ensures shows { MatchResult result (λ w. ShowsObject object.now.bytes inputs.now config false (stops_in order G.may_stop) w.report)
         (IsRefusedObject object.now.bytes inputs.now config) }
-    ensures turns { mode ≡ Mode.One → IfOk result (λ w. RunsObject object.now.bytes inputs.now config RunsByTurns w.report) }
+    ensures turns { (take : Take) → order ≡ Order.InTurn take → IfOk result (λ w. RunsObject object.now.bytes inputs.now config (RunsByTurns take) w.report) }
     ensures moments { IfOk result (λ w. AreMoments object.now.bytes inputs.now config w.report w.moments.items) }
 {
     let code = Loaded::new(resources.alloc.clone()?, object.as_object())?;
-    watch_code(resources, &code, inputs, config, mode)
+    watch_code(resources, &code, inputs, config, order)
 }
 
 /// A run of an object in rounds, with the moment of each of its events.

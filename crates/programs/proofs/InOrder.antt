@@ -10,7 +10,7 @@ use Rattle.semantics.specs.Report.{Report}
 use Rattle.semantics.specs.Text.{text_of}
 use Rattle.schedule.specs.declared.config.Config.{Config}
 use Rattle.schedule.specs.Unlisted.{with_events}
-use Rattle.command_line.specs.declared.Mode.{Mode}
+use Rattle.driver.specs.declared.order.Order.{Order}
 use Rattle.source.specs.Tree.{Program}
 use Rattle.source.specs.Lowered.{origin_of}
 use Rattle.source.specs.Theorem.{RestsWell, Computes}
@@ -49,28 +49,28 @@ module _ (text : List ℕ) (p : Program) (g : Graph) (h : Lowers text p g) (inpu
       → (r.outputs ≡ map (λ v. Some v) k.outputs) × ((x : ℕ) (v : Value) → Contains r.cells (x, v) ↔ Contains k.stores (x, v))) its
       (λ k. evaluation_shown text p g h inputs z steps by_list may_stop r t o none k) k
 
-  pub mode_shown : (mode : Mode) (c : Config) (may_stop : Bool) (r : Report) → ReportsTruthIn mode (text_of g) g inputs c may_stop r → r.end ≡ Rest
+  pub mode_shown : (order : Order) (c : Config) (may_stop : Bool) (r : Report) → ReportsTruthIn order (text_of g) g inputs c may_stop r → r.end ≡ Rest
       → r.deferred ≡ 0 → Shown r
-  mode_shown Mode.One c may_stop r t = report_shown _ _ _ _ r t.0
-  mode_shown Mode.Rounds c may_stop r t = report_shown _ _ _ _ r t
-  mode_shown Mode.Free c may_stop r t = report_shown _ _ _ _ r t
+  mode_shown (Order.InTurn take) c may_stop r t = report_shown _ _ _ _ r t.0
+  mode_shown Order.InRounds c may_stop r t = report_shown _ _ _ _ r t
+  mode_shown Order.Free c may_stop r t = report_shown _ _ _ _ r t
 
 -- A report of the program's graph that was not cut off, by whatever means it was made
-pub quiet_arrives : ProgramsComeToRest → (text : List ℕ) (p : Program) (g : Graph) → Lowers text p g → (mode : Mode) (inputs : List ℤ) (c : Config)
-    (may_stop : Bool) (r : Report) → ReportsQuietly mode (text_of g) g inputs c may_stop r → (k : EvaluatesInOrder p (origin_of p) inputs)
+pub quiet_arrives : ProgramsComeToRest → (text : List ℕ) (p : Program) (g : Graph) → Lowers text p g → (order : Order) (inputs : List ℤ) (c : Config)
+    (may_stop : Bool) (r : Report) → ReportsQuietly order (text_of g) g inputs c may_stop r → (k : EvaluatesInOrder p (origin_of p) inputs)
     → HasSpace (plan_of g).program (size_of c) c.steps (calls_and_turns k) → IsNotCut false r
     → Completes r × (r.outputs ≡ map (λ v. Some v) k.computes.outputs) × ((x : ℕ) (v : Value) → Contains r.cells (x, v) ↔ Contains k.computes.stores (x, v))
-quiet_arrives come text p g lowers mode inputs c may_stop r truth k space uncut =
+quiet_arrives come text p g lowers order inputs c may_stop r truth k space uncut =
     let low = lowered_text text p g lowers in
-    let fits = quiet_fit mode (text_of g) g inputs c may_stop r truth in
+    let fits = quiet_fit order (text_of g) g inputs c may_stop r truth in
     let at = come (program_of text) p g (origin_of p) low lowers.well_formed inputs fits k in
-    let v = kept_order_suffices_quietly mode (text_of g) g inputs c may_stop r truth _ _
+    let v = kept_order_suffices_quietly order (text_of g) g inputs c may_stop r truth _ _
     (record { state = at.state; rests = at.rests; calls = at.calls }) at.within space uncut in
-    let shown = mode_shown text p g lowers inputs k.memory k.computes at.state at.rests at.memory mode c may_stop (with_events r truth.2.1) truth.2.2 v.rest
+    let shown = mode_shown text p g lowers inputs k.memory k.computes at.state at.rests at.memory order c may_stop (with_events r truth.2.1) truth.2.2 v.rest
     v.none_waits in
     (v, shown.0, shown.1)
 
 pub ordered_programs_complete : ProgramsComeToRest → OrderedProgramsComplete
-ordered_programs_complete come mode text inputs c may_stop r report k space uncut =
-    let v = quiet_arrives come text report.program report.graph report.lowers mode inputs c may_stop r report.truth k space uncut in
+ordered_programs_complete come order text inputs c may_stop r report k space uncut =
+    let v = quiet_arrives come text report.program report.graph report.lowers order inputs c may_stop r report.truth k space uncut in
     (v.0, report.shows v.0.rest v.0.none_waits, v.1, v.2)

@@ -9,7 +9,7 @@ use Rattle.semantics.specs.Report.{Report}
 use Rattle.semantics.specs.Text.{text_of}
 use Rattle.schedule.specs.declared.config.Config.{Config}
 use Rattle.schedule.specs.Unlisted.{with_events}
-use Rattle.command_line.specs.declared.Mode.{Mode}
+use Rattle.driver.specs.declared.order.Order.{Order}
 use Rattle.law_confluence.proofs.EquationsNoneWaits.{none_waits}
 use Rattle.source.specs.Tokens.{program_of}
 use Rattle.source.specs.Tree.{Program}
@@ -79,16 +79,16 @@ report_shows text p g h inputs z steps by_list may_stop r t rest none =
     record { memory = o.state.memory; computes = k; outputs = shown.0; cells = shown.1 }
 
 pub mode_shows : (text : List ℕ) (p : Program) (g : Graph) → Lowers text p g
-    → (mode : Mode) (inputs : List ℤ) (c : Config) (may_stop : Bool) (r : Report)
-    → ReportsTruthIn mode (text_of g) g inputs c may_stop r → r.end ≡ Rest → r.deferred ≡ 0 → ShowsProgram p inputs r
-mode_shows text p g h Mode.One inputs c may_stop r t = report_shows text p g h inputs _ _ _ _ r t.0
-mode_shows text p g h Mode.Rounds inputs c may_stop r t = report_shows text p g h inputs _ _ _ _ r t
-mode_shows text p g h Mode.Free inputs c may_stop r t = report_shows text p g h inputs _ _ _ _ r t
+    → (order : Order) (inputs : List ℤ) (c : Config) (may_stop : Bool) (r : Report)
+    → ReportsTruthIn order (text_of g) g inputs c may_stop r → r.end ≡ Rest → r.deferred ≡ 0 → ShowsProgram p inputs r
+mode_shows text p g h (Order.InTurn take) inputs c may_stop r t = report_shows text p g h inputs _ _ _ _ r t.0
+mode_shows text p g h Order.InRounds inputs c may_stop r t = report_shows text p g h inputs _ _ _ _ r t
+mode_shows text p g h Order.Free inputs c may_stop r t = report_shows text p g h inputs _ _ _ _ r t
 
 -- the events of a report have no part in it
 pub quiet_shows : (text : List ℕ) (p : Program) (g : Graph) → Lowers text p g
-    → (mode : Mode) (inputs : List ℤ) (c : Config) (may_stop : Bool) (r : Report)
-    → ReportsQuietly mode (text_of g) g inputs c may_stop r → r.end ≡ Rest → r.deferred ≡ 0 → ShowsProgram p inputs r
-quiet_shows text p g h mode inputs c may_stop r t rest none =
-    let v = mode_shows text p g h mode inputs c may_stop (with_events r t.2.1) t.2.2 rest none in
+    → (order : Order) (inputs : List ℤ) (c : Config) (may_stop : Bool) (r : Report)
+    → ReportsQuietly order (text_of g) g inputs c may_stop r → r.end ≡ Rest → r.deferred ≡ 0 → ShowsProgram p inputs r
+quiet_shows text p g h order inputs c may_stop r t rest none =
+    let v = mode_shows text p g h order inputs c may_stop (with_events r t.2.1) t.2.2 rest none in
     record { memory = v.memory; computes = v.computes; outputs = v.outputs; cells = v.cells }

@@ -7,7 +7,7 @@ use Rattle.semantics.specs.Machine.{Size}
 use Rattle.semantics.specs.Report.{Report}
 use Rattle.semantics.specs.Text.{HasText, text_of}
 use Rattle.schedule.specs.declared.config.Config.{Config}
-use Rattle.command_line.specs.declared.Mode.{Mode}
+use Rattle.driver.specs.declared.order.Order.{Order}
 use Rattle.source.specs.Tree.{Program}
 use Rattle.source.specs.Lowered.{origin_of}
 use Rattle.source.specs.Theorem.{RestsWell, Computes}
@@ -32,17 +32,17 @@ ReportsShowPrograms = (text : List ℕ) (p : Program) (g : Graph) → Lowers tex
     → (inputs : List ℤ) (z : Size) (steps : ℕ) (by_list may_stop : Bool) (r : Report)
     → ReportsOf (text_of g) g inputs z steps by_list may_stop r → r.end ≡ Rest → r.deferred ≡ 0 → ShowsProgram p inputs r
 
--- in each mode,
+-- in each order,
 abbrev pub ModesShowPrograms : Type 0
 ModesShowPrograms = (text : List ℕ) (p : Program) (g : Graph) → Lowers text p g
-    → (mode : Mode) (inputs : List ℤ) (c : Config) (may_stop : Bool) (r : Report)
-    → ReportsTruthIn mode (text_of g) g inputs c may_stop r → r.end ≡ Rest → r.deferred ≡ 0 → ShowsProgram p inputs r
+    → (order : Order) (inputs : List ℤ) (c : Config) (may_stop : Bool) (r : Report)
+    → ReportsTruthIn order (text_of g) g inputs c may_stop r → r.end ≡ Rest → r.deferred ≡ 0 → ShowsProgram p inputs r
 
 -- and where the report lists no events.
 abbrev pub QuietReportsShowPrograms : Type 0
 QuietReportsShowPrograms = (text : List ℕ) (p : Program) (g : Graph) → Lowers text p g
-    → (mode : Mode) (inputs : List ℤ) (c : Config) (may_stop : Bool) (r : Report)
-    → ReportsQuietly mode (text_of g) g inputs c may_stop r → r.end ≡ Rest → r.deferred ≡ 0 → ShowsProgram p inputs r
+    → (order : Order) (inputs : List ℤ) (c : Config) (may_stop : Bool) (r : Report)
+    → ReportsQuietly order (text_of g) g inputs c may_stop r → r.end ≡ Rest → r.deferred ≡ 0 → ShowsProgram p inputs r
 
 -- What refuses a run of the graph, which has a text, refuses a run of that text.
 abbrev pub RefusalsAreTheTexts : Type 0
@@ -52,8 +52,8 @@ RefusalsAreTheTexts = (text : List ℕ) (p : Program) (g : Graph) → Lowers tex
 -- WHICH PROGRAMS' RUNS COMPLETE. Where the machine is large enough for what the meaning of the program's graph calls for, the report of a run that was
 -- not cut off ends at rest with no deferred reader, and so shows the program.
 abbrev pub ProgramsComplete : Type 0
-ProgramsComplete = (mode : Mode) (text : List ℕ) (inputs : List ℤ) (c : Config) (may_stop : Bool) (r : Report)
-    → (report : ReportsProgram mode text inputs c may_stop r) → (d t : ℕ) → NeedsAtMost report.graph inputs d t
+ProgramsComplete = (order : Order) (text : List ℕ) (inputs : List ℤ) (c : Config) (may_stop : Bool) (r : Report)
+    → (report : ReportsProgram order text inputs c may_stop r) → (d t : ℕ) → NeedsAtMost report.graph inputs d t
     → IsLargeEnough report.graph (plan_of report.graph).program (size_of c) c.steps d t → IsNotCut false r
     → Completes r × ShowsProgram report.program inputs r
 
@@ -61,8 +61,8 @@ ProgramsComplete = (mode : Mode) (text : List ℕ) (inputs : List ℤ) (c : Conf
 -- evaluation over its memory; and where the machine has a frame for main, for each call and for each iteration of it, and steps and credits for these,
 -- the report shows the program.
 abbrev pub CountedProgramsComplete : Type 0
-CountedProgramsComplete = (mode : Mode) (text : List ℕ) (inputs : List ℤ) (c : Config) (may_stop : Bool) (r : Report)
-    → (report : ReportsProgram mode text inputs c may_stop r) → (s : State) → RestsWell (flow_of report.graph) inputs s
+CountedProgramsComplete = (order : Order) (text : List ℕ) (inputs : List ℤ) (c : Config) (may_stop : Bool) (r : Report)
+    → (report : ReportsProgram order text inputs c may_stop r) → (s : State) → RestsWell (flow_of report.graph) inputs s
     → (k : Computes report.program (origin_of report.program) inputs s.memory)
     → IsLargeEnough report.graph (plan_of report.graph).program (size_of c) c.steps
     ((count_of report.program (origin_of report.program) inputs s.memory k).calls
@@ -73,8 +73,8 @@ CountedProgramsComplete = (mode : Mode) (text : List ℕ) (inputs : List ℤ) (c
 -- LOOP BY LOOP. The same, where no loop of the program's graph outgrows its bound: where each bound is at least the iterations of its own loop, in one
 -- invocation. The frames and the steps are counted in the program's own evaluation.
 abbrev pub OwnBoundsSufficeProgram : Type 0
-OwnBoundsSufficeProgram = (mode : Mode) (text : List ℕ) (inputs : List ℤ) (c : Config) (may_stop : Bool) (r : Report)
-    → (report : ReportsProgram mode text inputs c may_stop r) → (s : State) → RestsWell (flow_of report.graph) inputs s
+OwnBoundsSufficeProgram = (order : Order) (text : List ℕ) (inputs : List ℤ) (c : Config) (may_stop : Bool) (r : Report)
+    → (report : ReportsProgram order text inputs c may_stop r) → (s : State) → RestsWell (flow_of report.graph) inputs s
     → (k : Computes report.program (origin_of report.program) inputs s.memory) → NoneOutgrows (flow_of report.graph) inputs
     → HasSpace (plan_of report.graph).program (size_of c) c.steps
     ((count_of report.program (origin_of report.program) inputs s.memory k).calls
@@ -83,8 +83,8 @@ OwnBoundsSufficeProgram = (mode : Mode) (text : List ℕ) (inputs : List ℤ) (c
 
 -- WHICH ORDERS. The same, where some run of the meaning of the program's graph to its end keeps each loop within its bound.
 abbrev pub KeptOrderSufficesProgram : Type 0
-KeptOrderSufficesProgram = (mode : Mode) (text : List ℕ) (inputs : List ℤ) (c : Config) (may_stop : Bool) (r : Report)
-    → (report : ReportsProgram mode text inputs c may_stop r) → (s : State) → RestsWell (flow_of report.graph) inputs s
+KeptOrderSufficesProgram = (order : Order) (text : List ℕ) (inputs : List ℤ) (c : Config) (may_stop : Bool) (r : Report)
+    → (report : ReportsProgram order text inputs c may_stop r) → (s : State) → RestsWell (flow_of report.graph) inputs s
     → (k : Computes report.program (origin_of report.program) inputs s.memory) → SomeKeepsWithin (flow_of report.graph) inputs
     → HasSpace (plan_of report.graph).program (size_of c) c.steps
     ((count_of report.program (origin_of report.program) inputs s.memory k).calls

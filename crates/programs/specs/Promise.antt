@@ -7,7 +7,7 @@ use Rattle.semantics.specs.Meaning as Meaning
 use Rattle.semantics.specs.Report.{Report}
 use Rattle.semantics.specs.Text.{text_of}
 use Rattle.schedule.specs.declared.config.Config.{Config}
-use Rattle.command_line.specs.declared.Mode.{Mode}
+use Rattle.driver.specs.declared.order.Order.{Order}
 use Rattle.source.specs.Tree.{Program}
 use Rattle.source.specs.Lowered.{origin_of}
 use Rattle.source.specs.Theorem.{Computes}
@@ -26,10 +26,10 @@ pub record ShowsProgram (p : Program) (inputs : List ℤ) (r : Report) : Type 0 
   pub cells : (x : ℕ) (v : Value) → Contains r.cells (x, v) ↔ Contains computes.stores (x, v)
 
 -- THE PROMISE. The text has a program, which is lowered to a graph. The report tells the truth about the text of that graph, in this
--- mode, whatever its end; and where it ends at rest with no deferred reader, it shows the program.
-pub record ReportsProgram (mode : Mode) (text : List ℕ) (inputs : List ℤ) (c : Config) (may_stop : Bool) (r : Report) : Type 0 where
+-- order, whatever its end; and where it ends at rest with no deferred reader, it shows the program.
+pub record ReportsProgram (order : Order) (text : List ℕ) (inputs : List ℤ) (c : Config) (may_stop : Bool) (r : Report) : Type 0 where
   pub program : Program
   pub graph : Graph
   pub lowers : Lowers text program graph
-  pub truth : ReportsQuietly mode (text_of graph) graph inputs c may_stop r
+  pub truth : ReportsQuietly order (text_of graph) graph inputs c may_stop r
   pub shows : r.end ≡ Rest → r.deferred ≡ 0 → ShowsProgram program inputs r

@@ -6,7 +6,7 @@ ghost use Rattle.programs.specs.Refused.{IsRefusedRun};
 
 use crate::compiling::compile_program;
 use crate::fault::RunRefusal;
-use command_line::Mode;
+use driver::order::Order;
 use driver::resources::Resources;
 use driver::running::run_code_quietly;
 use loaded::Loaded;
@@ -18,19 +18,19 @@ use std::sync::Wait;
 use std::thread::Threads;
 
 /// Runs the program of the text on these inputs: it is lowered to a graph, that is compiled, and its code is run in the given
-/// mode. What follows a line `inputs` in the text is no part of it. Gives a report that lists no events, so a long run takes no
-/// more memory than a short one. In the mode `One` the elements take turns, and each takes its oldest token.
+/// order. What follows a line `inputs` in the text is no part of it. Gives a report that lists no events, so a long run takes no
+/// more memory than a short one.
 pub fn run_program<R: Threads + Wait + Sync, A: Allocator + Clone + Send + Sync, G: Gate + Sync>(
     resources: Resources<'_, A, R, G>,
     text: &[u8],
     inputs: &[i64],
     config: Config,
-    mode: Mode,
+    order: Order,
 ) -> Result<Report<A>, RunRefusal>
-    ensures { MatchResult result (ReportsProgram mode text.now inputs.now config G.may_stop) (IsRefusedRun text.now inputs.now config) }
+    ensures { MatchResult result (ReportsProgram order text.now inputs.now config G.may_stop) (IsRefusedRun text.now inputs.now config) }
 {
     let object = compile_program(resources.alloc.clone()?, text)?;
     let code = Loaded::new(resources.alloc.clone()?, object.as_object())?;
-    let report = run_code_quietly(resources, &code, inputs, config, mode)?;
+    let report = run_code_quietly(resources, &code, inputs, config, order)?;
     Ok(report)
 }

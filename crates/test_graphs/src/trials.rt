@@ -7,6 +7,7 @@ use crate::verdict::{Verdict, verdict_of};
 use command_line::Mode;
 use driver::emulation::{emulate, emulate_picks, run_text};
 use driver::fault::Fault;
+use driver::order::Order;
 use driver::resources::Resources;
 use oracle::MeanReport;
 use rounds::Open;
@@ -123,7 +124,7 @@ impl<'a> Trials<'a> {
             rt,
             gate: &Open,
         };
-        let run = run_text(resources, text, inputs, config, Mode::Free).map(
+        let run = run_text(resources, text, inputs, config, Order::Free).map(
             |emulated| emulated.report,
         );
         self.judge(runs, config, &run) != Verdict::Differs

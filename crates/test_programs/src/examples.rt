@@ -10,10 +10,12 @@ use command_line::Mode;
 use commands::input::{parse_integers, split_at_main};
 use driver::emulation::run_text;
 use driver::meaning::mean_text;
+use driver::order::Order;
 use driver::resources::Resources;
 use report_text::{write_meaning, write_report};
 use rounds::Open;
 use schedule::config::Config;
+use schedule::take::Take;
 use std::alloc::{AllocError, Global};
 use std::fs;
 use std::io::{self, Write};
@@ -61,7 +63,8 @@ fn report_of<R: Threads + Wait + Sync>(
         rt,
         gate: &Open,
     };
-    let emulated = run_text(resources, text, &integers, config, mode).ok()?;
+    let order = Order::in_mode(mode, Take::Oldest);
+    let emulated = run_text(resources, text, &integers, config, order).ok()?;
     let mut report = Vec::new(alloc);
     write_report(&mut report, emulated.checked.graph(), &emulated.report).ok()?;
     Some(report)

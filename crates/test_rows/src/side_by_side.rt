@@ -1,7 +1,7 @@
 //! Two free elements run side by side: each waits for the other one in the middle of its work.
 
-use command_line::Mode;
 use driver::emulation::run_text;
+use driver::order::Order;
 use driver::resources::Resources;
 use rounds::Gate;
 use schedule::config::Config;
@@ -74,7 +74,7 @@ fn two(rt: HostRuntime) -> Result<(), Fail> {
         rt: &rt,
         gate: &gate,
     };
-    let emulated = run_text(resources, &text, [7].as_slice(), config, Mode::Free).map_err(
+    let emulated = run_text(resources, &text, [7].as_slice(), config, Order::Free).map_err(
         |_| "a report",
     )?;
     assert_eq!(rt; emulated.report.end, End::Rest);

@@ -1,13 +1,14 @@
 //! Texts of programs, and what their reports say.
 
-use command_line::Mode;
 use driver::fault::Fault;
+use driver::order::Order;
 use driver::resources::Resources;
 use programs::fault::RunRefusal;
 use programs::running::run_program;
 use rounds::Open;
 use schedule::config::{Config, StartFault};
 use schedule::report::Report;
+use schedule::take::Take;
 use semantics::report::End;
 use source::fault::{FaultKind, ProgramFault};
 use std::alloc::Global;
@@ -26,7 +27,12 @@ const SQUARE: &[u8] = b"array A[4];\nfn main(n) -> 2 { A[n] := n * n, A[n] + 1 }
 /// The name `m` stands for nothing.
 const NAMELESS: &[u8] = b"fn main(n) {\n    n + m\n}\n";
 
-const MODES: [Mode; 3] = [Mode::One, Mode::Rounds, Mode::Free];
+const ORDERS: [Order; 4] = [
+    Order::InTurn(Take::Oldest),
+    Order::InTurn(Take::Depth),
+    Order::InRounds,
+    Order::Free,
+];
 
 const CONFIG: Config = Config {
     elements: 3,
@@ -35,20 +41,20 @@ const CONFIG: Config = Config {
     turn: 16,
 };
 
-/// The report of a run in this mode, on this input.
+/// The report of a run in this order, on this input.
 fn report_in<R: Threads + Wait + Sync>(
     rt: &R,
     alloc: Global,
     text: &[u8],
     input: i64,
-    mode: Mode,
+    order: Order,
 ) -> Result<Report<Global>, RunRefusal> {
     let resources = Resources {
         alloc,
         rt,
         gate: &Open,
     };
-    run_program(resources, text, &[input], CONFIG, mode)
+    run_program(resources, text, &[input], CONFIG, order)
 }
 
 /// Whether the report has these outputs and cells, at rest, with no reader waiting and no event listed.
@@ -63,8 +69,8 @@ fn is_reported(report: &Report<Global>, outputs: &[Option<Value>], cells: &[(u32
 #[test]
 fn factorial_of_twenty(rt: HostRuntime) -> Result<(), Fail> {
     let wanted = [Some(Value::Int(2_432_902_008_176_640_000))];
-    for mode in MODES {
-        let report = report_in(&rt, rt.alloc(), FACTORIAL, 20, mode);
+    for order in ORDERS {
+        let report = report_in(&rt, rt.alloc(), FACTORIAL, 20, order);
         assert!(rt; report.is_ok_and(|report| is_reported(&report, &wanted, &[])));
     }
     Ok(())
@@ -73,8 +79,8 @@ fn factorial_of_twenty(rt: HostRuntime) -> Result<(), Fail> {
 #[test]
 fn a_cell_is_filled(rt: HostRuntime) -> Result<(), Fail> {
     let wanted = [Some(Value::Int(9)), Some(Value::Int(10))];
-    for mode in MODES {
-        let report = report_in(&rt, rt.alloc(), SQUARE, 3, mode);
+    for order in ORDERS {
+        let report = report_in(&rt, rt.alloc(), SQUARE, 3, order);
         assert!(rt;
             report.is_ok_and(|report| is_reported(&report, &wanted, &[(3, Value::Int(9))]))
         );
@@ -89,7 +95,7 @@ fn is_nameless(fault: &ProgramFault) -> bool {
 
 #[test]
 fn refusals_are_told(rt: HostRuntime) -> Result<(), Fail> {
-    let nameless = report_in(&rt, rt.alloc(), NAMELESS, 1, Mode::One);
+    let nameless = report_in(&rt, rt.alloc(), NAMELESS, 1, Order::InTurn(Take::Oldest));
     assert!(rt;
         matches!(nameless, Err(RunRefusal::Program(refusal)) if is_nameless(&refusal.fault))
     );
@@ -98,7 +104,13 @@ fn refusals_are_told(rt: HostRuntime) -> Result<(), Fail> {
         rt: &rt,
         gate: &Open,
     };
-    let empty = run_program(resources, FACTORIAL, &[], CONFIG, Mode::One);
+    let empty = run_program(
+        resources,
+        FACTORIAL,
+        &[],
+        CONFIG,
+        Order::InTurn(Take::Oldest),
+    );
     assert!(rt;
         matches!(
             empty,

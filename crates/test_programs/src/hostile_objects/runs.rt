@@ -8,10 +8,12 @@ use command_line::Mode;
 use driver::emulation::{emulate_object, emulate_object_picks, emulate_object_quietly};
 use driver::fault::Fault;
 use driver::objects::upgrade_object;
+use driver::order::Order as RunOrder;
 use driver::resources::Resources;
 use rounds::Open;
 use schedule::config::Config;
 use schedule::report::Report;
+use schedule::take::Take;
 use semantics::report::End;
 use std::alloc::{AllocError, Global};
 use std::sync::Wait;
@@ -110,7 +112,8 @@ impl Runnable<'_> {
             rt,
             gate: &Open,
         };
-        emulate_object_quietly(resources, self.object, self.inputs, config, mode)
+        let order = RunOrder::in_mode(mode, Take::Oldest);
+        emulate_object_quietly(resources, self.object, self.inputs, config, order)
     }
 
     /// Whether a run that lists no events has the same report, except for the events.

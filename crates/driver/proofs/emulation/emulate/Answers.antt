@@ -2,9 +2,11 @@ use Rattle.std.proofs.Common.{List, ℕ, false, subst}
 use Rattle.std.proofs.lemmas.Result.{err_from_is_err_and}
 use Rattle.driver.specs.Headline.{stops_in}
 use Rattle.driver.specs.Objects.{ShowsObject, RunsObject}
-use Rattle.driver.specs.Orders.{RunsByTurns}
+use Rattle.schedule.specs.declared.take.Take.{Take}
+use Rattle.schedule.specs.declared.take.Take.TheVariants.{Oldest}
+use Rattle.driver.specs.Orders.{RunsByTurns, order_of}
 use Rattle.driver.specs.Refused.{IsRefusedObject}
-use Rattle.driver.proofs.Truth.{reports_in}
+use Rattle.driver.proofs.Truth.{reports_in, oldest_in_turn}
 use Rattle.driver.proofs.TextObjects.{refused_as_text}
 use Rattle.driver.proofs.emulation.emulate.Goals as goal
 
@@ -13,12 +15,13 @@ returns g c =
     let k = c.in_ok-compiled.compiled in
     let same = c.bytes-bytes.ensures in (
       k.checked,
-      reports_in c.args.mode c.args.text.now k.checked k.object.bytes c.args.inputs.now c.args.config g.G.Gate.may_stop c.in_ok-report.report
+      reports_in (order_of c.args.mode Oldest) c.args.text.now k.checked k.object.bytes c.args.inputs.now c.args.config g.G.Gate.may_stop c.in_ok-report.report
           c.in_ok-compiled.ensures
-          (subst (λ (bs : List ℕ). ShowsObject bs c.args.inputs.now c.args.config false (stops_in c.args.mode g.G.Gate.may_stop)
+          (subst (λ (bs : List ℕ). ShowsObject bs c.args.inputs.now c.args.config false (stops_in (order_of c.args.mode Oldest) g.G.Gate.may_stop)
           c.in_ok-report.report) same c.in_ok-report.ensures.shows)
-          (λ one. subst (λ (bs : List ℕ). RunsObject bs c.args.inputs.now c.args.config RunsByTurns c.in_ok-report.report) same
-          (c.in_ok-report.ensures.turns one)),
+          (oldest_in_turn c.args.mode (λ (way : Take). RunsObject k.object.bytes c.args.inputs.now c.args.config (RunsByTurns way) c.in_ok-report.report)
+          (λ one. subst (λ (bs : List ℕ). RunsObject bs c.args.inputs.now c.args.config (RunsByTurns Oldest) c.in_ok-report.report) same
+          (c.in_ok-report.ensures.turns one))),
     )
 
 pub returns-in_err-report : goal.returns-in_err-report

@@ -1,25 +1,18 @@
-use Rattle.std.proofs.Common.{List, ℕ, false, subst}
-use Rattle.std.specs.Prelude.{MatchResult, IfOk}
-use Rattle.std.proofs.lemmas.Result.{err_from_is_err_and}
+use Rattle.std.proofs.Common.{false, ap, ◌∙◌, subst}
+use Rattle.std.specs.Prelude.{MatchResult}
+use Rattle.command_line.specs.declared.Mode.{Mode}
+use Rattle.schedule.specs.declared.take.Take.TheVariants.{Oldest}
+use Rattle.driver.specs.declared.order.Order.{Order}
 use Rattle.driver.specs.Headline.{stops_in}
-use Rattle.driver.specs.Objects.{ShowsObject, RunsObject}
-use Rattle.driver.specs.Orders.{RunsByTurns}
+use Rattle.driver.specs.Objects.{ShowsObject}
+use Rattle.driver.specs.Orders.{order_of}
 use Rattle.driver.specs.Refused.{IsRefusedObject}
-use Rattle.driver.proofs.TextObjects.{unopened_refused}
 use Rattle.driver.proofs.emulation.emulate_object.Goals as goal
 
 pub returns-clause-shows : goal.returns-clause-shows
 returns-clause-shows g c =
-    subst (λ (bs : List ℕ). MatchResult c.run_code.result (ShowsObject bs c.args.inputs.now c.args.config false
-    (stops_in c.args.mode g.G.Gate.may_stop)) (IsRefusedObject bs c.args.inputs.now c.args.config))
-    c.in_ok-code.ensures.bytes c.run_code.ensures.shows
+    subst (λ (o : Order). MatchResult c.run_object.result (ShowsObject c.args.bytes.now c.args.inputs.now c.args.config false
+    (stops_in o g.G.Gate.may_stop)) (IsRefusedObject c.args.bytes.now c.args.inputs.now c.args.config)) c.in_mode-order.ensures c.run_object.ensures.shows
 
 pub returns-clause-turns : goal.returns-clause-turns
-returns-clause-turns g c = λ one.
-    subst (λ (bs : List ℕ). IfOk c.run_code.result (RunsObject bs c.args.inputs.now c.args.config RunsByTurns)) c.in_ok-code.ensures.bytes
-    (c.run_code.ensures.turns one)
-
-pub returns-in_err-code-clause-shows : goal.returns-in_err-code-clause-shows
-returns-in_err-code-clause-shows g c =
-    let p = err_from_is_err_and c.from_residual.result c.from_residual.ensures.1 in
-    rw (p.1, p.2) (unopened_refused c.args.bytes.now c.args.inputs.now c.args.config c.in_err-code.field-0.0 c.in_err-code.ensures.opened)
+returns-clause-turns g c = λ one. c.run_object.ensures.turns Oldest (c.in_mode-order.ensures ∙ ap (λ (m : Mode). order_of m Oldest) one)

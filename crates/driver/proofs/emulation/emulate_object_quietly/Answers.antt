@@ -10,7 +10,7 @@ use Rattle.driver.proofs.emulation.emulate_object_quietly.Goals as goal
 pub returns : goal.returns
 returns g c =
     subst (λ (bs : List ℕ). MatchResult c.run_code_quietly.result
-    (Quietly (ShowsObjectIn c.args.mode bs c.args.inputs.now c.args.config g.G.Gate.may_stop)) (IsRefusedObject bs c.args.inputs.now c.args.config))
+    (Quietly (ShowsObjectIn c.args.order bs c.args.inputs.now c.args.config g.G.Gate.may_stop)) (IsRefusedObject bs c.args.inputs.now c.args.config))
     c.in_ok-code.ensures.bytes c.run_code_quietly.ensures
 
 pub returns-in_err-code : goal.returns-in_err-code

@@ -12,9 +12,9 @@ pub returns : goal.returns
 returns g c =
     let k = c.in_ok-checked.field-0 in
     let same = ap (λ (x : Opened). x.bytes) (c.in_ok-code.ensures ∙ c.as_object.ensures) in
-    reports_quietly c.args.mode c.args.text.now k.checked k.object.bytes c.args.inputs.now c.args.config g.G.Gate.may_stop c.in_ok-report.report
+    reports_quietly c.args.order c.args.text.now k.checked k.object.bytes c.args.inputs.now c.args.config g.G.Gate.may_stop c.in_ok-report.report
     c.in_ok-checked.ensures
-    (subst (λ (bs : List ℕ). Quietly (ShowsObjectIn c.args.mode bs c.args.inputs.now c.args.config g.G.Gate.may_stop) c.in_ok-report.report) same
+    (subst (λ (bs : List ℕ). Quietly (ShowsObjectIn c.args.order bs c.args.inputs.now c.args.config g.G.Gate.may_stop) c.in_ok-report.report) same
     c.in_ok-report.ensures)
 
 pub returns-in_err-report : goal.returns-in_err-report

@@ -12,13 +12,13 @@ pub returns-clause-shows : goal.returns-clause-shows
 returns-clause-shows g c =
     let same = ap (λ (x : Opened). x.bytes) (c.in_ok-code.ensures ∙ c.as_object.ensures) in
     subst (λ (bs : List ℕ). MatchResult c.watch_code.result (λ w. ShowsObject bs c.args.inputs.now c.args.config false
-    (stops_in c.args.mode g.G.Gate.may_stop) w.report) (IsRefusedObject bs c.args.inputs.now c.args.config)) same c.watch_code.ensures.shows
+    (stops_in c.args.order g.G.Gate.may_stop) w.report) (IsRefusedObject bs c.args.inputs.now c.args.config)) same c.watch_code.ensures.shows
 
 pub returns-clause-turns : goal.returns-clause-turns
-returns-clause-turns g c = λ one.
+returns-clause-turns g c = λ take turns.
     let same = ap (λ (x : Opened). x.bytes) (c.in_ok-code.ensures ∙ c.as_object.ensures) in
-    subst (λ (bs : List ℕ). IfOk c.watch_code.result (λ w. RunsObject bs c.args.inputs.now c.args.config RunsByTurns w.report)) same
-    (c.watch_code.ensures.turns one)
+    subst (λ (bs : List ℕ). IfOk c.watch_code.result (λ w. RunsObject bs c.args.inputs.now c.args.config (RunsByTurns take) w.report)) same
+    (c.watch_code.ensures.turns take turns)
 
 pub returns-clause-moments : goal.returns-clause-moments
 returns-clause-moments g c =

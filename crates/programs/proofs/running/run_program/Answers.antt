@@ -23,15 +23,15 @@ pub returns : goal.returns
 returns g c =
     let k = c.in_ok-object.ensures in
     let same = ap (λ (x : Opened). x.bytes) (c.in_ok-code.ensures ∙ c.as_object.ensures) in
-    let reported = reports_quietly c.args.mode (text_of k.graph) k.graph c.in_ok-object.object.bytes c.args.inputs.now c.args.config g.G.Gate.may_stop
+    let reported = reports_quietly c.args.order (text_of k.graph) k.graph c.in_ok-object.object.bytes c.args.inputs.now c.args.config g.G.Gate.may_stop
     c.in_ok-report.report k.compiled
-    (subst (λ (bs : List ℕ). Quietly (ShowsObjectIn c.args.mode bs c.args.inputs.now c.args.config g.G.Gate.may_stop) c.in_ok-report.report) same
+    (subst (λ (bs : List ℕ). Quietly (ShowsObjectIn c.args.order bs c.args.inputs.now c.args.config g.G.Gate.may_stop) c.in_ok-report.report) same
     c.in_ok-report.ensures) in
     record {
       program = k.program;
       graph = k.graph;
       lowers = k.lowers;
       truth = reported;
-      shows = quiet_shows c.args.text.now k.program k.graph k.lowers c.args.mode c.args.inputs.now c.args.config g.G.Gate.may_stop
+      shows = quiet_shows c.args.text.now k.program k.graph k.lowers c.args.order c.args.inputs.now c.args.config g.G.Gate.may_stop
           c.in_ok-report.report reported;
     }
