@@ -1,5 +1,5 @@
 -- What an input gives, or why it does not, stated of the commands that read it.
-use Rattle.std.proofs.Common.{Option, ◌≡◌, ℕ, ℤ, List, Bool, false, inl, inr, ◌⊎◌, Result, Ok, Err, refl, sym, subst}
+use Rattle.std.proofs.Common.{Option, ◌≡◌, ℕ, ℤ, List, Bool, true, false, inl, inr, ◌⊎◌, Result, Ok, Err, refl, sym, subst}
 use Rattle.std.specs.Prelude.{Some, None}
 use Rattle.semantics.specs.Graph.{Graph}
 use Rattle.semantics.specs.Report.{Report}
@@ -12,7 +12,7 @@ use Rattle.oracle.specs.Waves.{AreWavesOf}
 use Rattle.replay.specs.declared.moment.Moment.{Moment}
 use Rattle.replay.specs.Views.{BooksView}
 use Rattle.profile_text.specs.declared.lines.MachineRow.{MachineRow}
-use Rattle.command_line.specs.declared.Mode.{Mode}
+use Rattle.driver.specs.declared.order.Order.{Order}
 use Rattle.command_line.specs.declared.RunOptions.{RunOptions}
 use Rattle.command_line.specs.declared.sizes.Sizes.{Sizes}
 use Rattle.driver.specs.declared.fault.Fault.{Fault}
@@ -24,11 +24,11 @@ use Rattle.commands.specs.declared.profiling.ProfileFormat.{ProfileFormat}
 use Rattle.commands.specs.Input.{integers_of}
 use Rattle.commands.specs.Refusals.{refused_as}
 use Rattle.commands.specs.Feed.{IsFeed, IsNoFeed}
-use Rattle.commands.specs.Agreed.{IsNoOrderOf, WhyNoOrder}
+use Rattle.commands.specs.Agreed.{HasNoOrder, IsNoOrderOf, WhyNoOrder}
 use Rattle.commands.specs.Traced.{IsTraceOf, IsPageOf}
-use Rattle.commands.specs.Profiled.{IsNoProfileOf, IsProfileOf, WhyNoProfile, IsNoRow, AreRows, IsSufficient, sizes_below}
+use Rattle.commands.specs.Profiled.{IsNoProfileOf, IsProfileOf, WhyNoProfile, IsNoRow, LacksOrder, AreRows, IsSufficient, sizes_below}
 use Rattle.profile_text.specs.declared.sufficient.Sufficient.{Sufficient}
-use Rattle.commands.specs.Served.{Parts, IsReportedAs, IsRunOf, IsNoRunOf, IsRefusedLine, WhyNoRun, config_of}
+use Rattle.commands.specs.Served.{Parts, IsReportedAs, IsRunOf, IsNoRunOf, IsRefusedLine, WhyNoRun, config_of, is_order, order_in}
 
 -- a cause that the integers decide, where there are none
 abbrev Bad : (parts : List ℕ) → Result (List ℤ) ℕ → Refusal → Type 0
@@ -63,12 +63,12 @@ module _ (input : List ℕ) (f : Refusal) (none : IsNoFeed input f) where
 abbrev pub IsRefusedOption : List ℕ → List ℤ → Config → Refusal → Type 0
 IsRefusedOption text inputs c f = IsReportedAs (IsRefused text inputs c) f ⊎ (IsReady text inputs c × (f ≡ Refusal.Start StartFault.BadConfig))
 
-no_mode_of : (text : List ℕ) (inputs : List ℤ) (o : RunOptions) (f : Refusal) → o.mode ≡ None → IsRefusedOption text inputs (config_of o) f
+no_mode_of : (text : List ℕ) (inputs : List ℤ) (o : RunOptions) (f : Refusal) → order_in o ≡ None → IsRefusedOption text inputs (config_of o) f
     → WhyNoRun (Ok inputs) text o f
 no_mode_of text inputs o f none (inl reported) = inl reported
 no_mode_of text inputs o f none (inr ready) = inr (ready.0, none, ready.1)
 
-no_count_of : (text : List ℕ) (inputs : List ℤ) (o : RunOptions) (count : ℕ) (f : Refusal) → (IsGood (config_of o) → count ≡ 0)
+no_count_of : (text : List ℕ) (inputs : List ℤ) (o : RunOptions) (count : ℕ) (f : Refusal) → (IsGood (config_of o) → HasNoOrder o count)
     → IsRefusedOption text inputs (config_of o) f → WhyNoOrder (Ok inputs) text o count f
 no_count_of text inputs o count f none (inl reported) = inl reported
 no_count_of text inputs o count f none (inr ready) = inr (ready.0, none ready.0.good, ready.1)
@@ -95,43 +95,43 @@ module _ (input text : List ℕ) (inputs : List ℤ) (feed : IsFeed input text i
   }
 
   -- RUN AND TRACE
-  pub run_of : (o : RunOptions) (g : Graph) (r : Report) (mode : Mode) → o.mode ≡ Some mode → (c : Config) → c ≡ config_of o
-      → (may_stop : Bool) → may_stop ≡ false → ReportsQuietly mode text g inputs c may_stop r → IsRunOf input o g r
+  pub run_of : (o : RunOptions) (g : Graph) (r : Report) (order : Order) → order_in o ≡ Some order → (c : Config) → c ≡ config_of o
+      → (may_stop : Bool) → may_stop ≡ false → ReportsQuietly order text g inputs c may_stop r → IsRunOf input o g r
   unfolding parts
-  run_of o g r mode named c same may_stop never truth = record {
+  run_of o g r order named c same may_stop never truth = record {
     parts = parts;
     inputs = inputs;
     integers = feed.integers;
-    mode = mode;
+    order = order;
     named = named;
-    truth = subst (λ (b : Bool). ReportsQuietly mode text g inputs (config_of o) b r) never
-        (subst (λ (d : Config). ReportsQuietly mode text g inputs d may_stop r) same truth);
+    truth = subst (λ (b : Bool). ReportsQuietly order text g inputs (config_of o) b r) never
+        (subst (λ (d : Config). ReportsQuietly order text g inputs d may_stop r) same truth);
   }
 
-  pub trace_of : (o : RunOptions) (g : Graph) (bytes : List ℕ) (r : Report) (moments : List Moment) (mode : Mode) → o.mode ≡ Some mode → (c : Config)
+  pub trace_of : (o : RunOptions) (g : Graph) (bytes : List ℕ) (r : Report) (moments : List Moment) (order : Order) → order_in o ≡ Some order → (c : Config)
       → c ≡ config_of o
-      → (may_stop : Bool) → may_stop ≡ false → IsWatched mode text g bytes inputs c may_stop r moments → IsTraceOf input o g bytes r moments
-  trace_of o g bytes r moments mode named c same may_stop never watched = record {
+      → (may_stop : Bool) → may_stop ≡ false → IsWatched order text g bytes inputs c may_stop r moments → IsTraceOf input o g bytes r moments
+  trace_of o g bytes r moments order named c same may_stop never watched = record {
     text = text;
     inputs = inputs;
     feed = feed;
-    mode = mode;
+    order = order;
     named = named;
-    watched = subst (λ (b : Bool). IsWatched mode text g bytes inputs (config_of o) b r moments) never
-        (subst (λ (d : Config). IsWatched mode text g bytes inputs d may_stop r moments) same watched);
+    watched = subst (λ (b : Bool). IsWatched order text g bytes inputs (config_of o) b r moments) never
+        (subst (λ (d : Config). IsWatched order text g bytes inputs d may_stop r moments) same watched);
   }
 
-  pub page_of : (o : RunOptions) (first : ℕ) (g : Graph) (bytes : List ℕ) (r : Report) (books : BooksView) (mode : Mode) → o.mode ≡ Some mode → (c : Config)
-      → c ≡ config_of o → (may_stop : Bool) → may_stop ≡ false → ListsEvents mode text g bytes inputs c may_stop r → HasBooks bytes inputs c first r books
+  pub page_of : (o : RunOptions) (first : ℕ) (g : Graph) (bytes : List ℕ) (r : Report) (books : BooksView) (order : Order) → order_in o ≡ Some order → (c : Config)
+      → c ≡ config_of o → (may_stop : Bool) → may_stop ≡ false → ListsEvents order text g bytes inputs c may_stop r → HasBooks bytes inputs c first r books
       → IsPageOf input o first g bytes r books
-  page_of o first g bytes r books mode named c same may_stop never lists books_are = record {
+  page_of o first g bytes r books order named c same may_stop never lists books_are = record {
     text = text;
     inputs = inputs;
     feed = feed;
-    mode = mode;
+    order = order;
     named = named;
-    lists = subst (λ (b : Bool). ListsEvents mode text g bytes inputs (config_of o) b r) never
-        (subst (λ (d : Config). ListsEvents mode text g bytes inputs d may_stop r) same lists);
+    lists = subst (λ (b : Bool). ListsEvents order text g bytes inputs (config_of o) b r) never
+        (subst (λ (d : Config). ListsEvents order text g bytes inputs d may_stop r) same lists);
     kept = subst (λ (d : Config). HasBooks bytes inputs d first r books) same books_are;
   }
 
@@ -142,7 +142,7 @@ module _ (input text : List ℕ) (inputs : List ℤ) (feed : IsFeed input text i
       ≡ refused_as fault → IsNoRunOf input o f
   run_refused o c same fault refused f reported = stopped_run o f (inl (fault, subst (λ (d : Config). IsRefused text inputs d fault) same refused, reported))
 
-  pub mode_refused : (o : RunOptions) (c : Config) → c ≡ config_of o → o.mode ≡ None → (f : Refusal) → IsRefusedOption text inputs c f → IsNoRunOf input o f
+  pub mode_refused : (o : RunOptions) (c : Config) → c ≡ config_of o → order_in o ≡ None → (f : Refusal) → IsRefusedOption text inputs c f → IsNoRunOf input o f
   mode_refused o c same none f why = stopped_run o f (no_mode_of text inputs o f none (subst (λ (d : Config). IsRefusedOption text inputs d f) same why))
 
   -- ORDERS
@@ -151,10 +151,10 @@ module _ (input text : List ℕ) (inputs : List ℤ) (feed : IsFeed input text i
   order_refused o count c same fault refused f reported = stopped_order o count f
       (inl (fault, subst (λ (d : Config). IsRefused text inputs d fault) same refused, reported))
 
-  pub count_refused : (o : RunOptions) (count : ℕ) (c : Config) → c ≡ config_of o → (IsGood c → count ≡ 0) → (f : Refusal)
+  pub count_refused : (o : RunOptions) (count : ℕ) (c : Config) → c ≡ config_of o → (IsGood c → HasNoOrder o count) → (f : Refusal)
       → IsRefusedOption text inputs c f → IsNoOrderOf input o count f
   count_refused o count c same none f why =
-      stopped_order o count f (no_count_of text inputs o count f (subst (λ (d : Config). IsGood d → count ≡ 0) same none)
+      stopped_order o count f (no_count_of text inputs o count f (subst (λ (d : Config). IsGood d → HasNoOrder o count) same none)
       (subst (λ (d : Config). IsRefusedOption text inputs d f) same why))
 
   -- PROFILE
@@ -169,20 +169,29 @@ module _ (input text : List ℕ) (inputs : List ℤ) (feed : IsFeed input text i
       → IsGoodText text g → AreWavesOf g inputs o.steps e counts
       → (f : Refusal) → (f ≡ Refusal.Memory) ⊎ ((format ≡ ProfileFormat.Lines) × IsNoRow text inputs o s f) → IsNoProfileOf input o s format f
   rows_refused o s format g e counts good waves f (inl memory) = no_room_for_profile o s format f memory
-  rows_refused o s format g e counts good waves f (inr none) = stopped_profile o s format f (inr ((g, e, counts, good, waves), none.0, none.1))
+  rows_refused o s format g e counts good waves f (inr none) = stopped_profile o s format f (inr ((g, e, counts, good, waves), none.0, inl none.1))
+
+  pub order_of_rows_refused : (o : RunOptions) (s : Sizes) (format : ProfileFormat) (g : Graph) (e : MeanEnd) (counts : List ℕ)
+      → IsGoodText text g → AreWavesOf g inputs o.steps e counts
+      → (f : Refusal) → (f ≡ Refusal.Memory) ⊎ ((format ≡ ProfileFormat.Lines) × LacksOrder text inputs o f) → IsNoProfileOf input o s format f
+  order_of_rows_refused o s format g e counts good waves f (inl memory) = no_room_for_profile o s format f memory
+  order_of_rows_refused o s format g e counts good waves f (inr none) =
+      stopped_profile o s format f (inr ((g, e, counts, good, waves), none.0, inr none.1))
 
   pub profile_of : (o : RunOptions) (s : Sizes) (format : ProfileFormat) (g : Graph) (e : MeanEnd) (counts : List ℕ) (rows : List MachineRow)
       (enough : Option Sufficient)
       → IsGoodText text g → AreWavesOf g inputs o.steps e counts → wave_counts g inputs o.steps ≡ Some (e, counts)
+      → (format ≡ ProfileFormat.Lines → is_order o.take ≡ true)
       → (format ≡ ProfileFormat.Lines → AreRows text inputs o (sizes_below s 64) rows)
       → (format ≡ ProfileFormat.Lines → IsSufficient g inputs o.steps enough) → IsProfileOf input o s format g e counts rows enough
-  profile_of o s format g e counts rows enough good waves reported machine sufficient = record {
+  profile_of o s format g e counts rows enough good waves reported ordered machine sufficient = record {
     text = text;
     inputs = inputs;
     feed = feed;
     good = good;
     waves = waves;
     reported = reported;
+    ordered = ordered;
     machine = machine;
     sufficient = sufficient;
   }

@@ -11,3 +11,4 @@ mod GraphEnds
 mod IntegerLines
 pub mod PipedRuns
 mod Sufficing
+mod EnoughRuns

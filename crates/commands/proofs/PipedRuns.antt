@@ -15,7 +15,7 @@ use Rattle.report_text.specs.ReportText.{report_text}
 use Rattle.schedule.specs.declared.config.Config.{Config}
 use Rattle.command_line.specs.declared.Asked.{Asked}
 use Rattle.command_line.specs.declared.Lowering.{Lowering}
-use Rattle.command_line.specs.declared.Mode.{Mode}
+use Rattle.driver.specs.declared.order.Order.{Order}
 use Rattle.command_line.specs.declared.Request.{Request}
 use Rattle.command_line.specs.declared.RunOptions.{RunOptions}
 use Rattle.driver.specs.Headline.{ReportsQuietly}
@@ -92,11 +92,11 @@ one_graph : (g h : Graph) → HasText g → HasText h → text_of g ≡ text_of 
 one_graph g h has also same = same_read g h (sym (text_gives g has) ∙ ap text_from same ∙ text_gives h also)
 
 -- of a text of which a report is true
-its_text : (mode : Mode) (text : List ℕ) (g : Graph) (inputs : List ℤ) (c : Config) (may_stop : Bool) (r : Report)
-    → ReportsQuietly mode text g inputs c may_stop r → IsText text g
-its_text Mode.One text g inputs c may_stop r true_of = true_of.2.2.0.is_text
-its_text Mode.Rounds text g inputs c may_stop r true_of = true_of.2.2.is_text
-its_text Mode.Free text g inputs c may_stop r true_of = true_of.2.2.is_text
+its_text : (order : Order) (text : List ℕ) (g : Graph) (inputs : List ℤ) (c : Config) (may_stop : Bool) (r : Report)
+    → ReportsQuietly order text g inputs c may_stop r → IsText text g
+its_text (Order.InTurn take) text g inputs c may_stop r true_of = true_of.2.2.0.is_text
+its_text Order.InRounds text g inputs c may_stop r true_of = true_of.2.2.is_text
+its_text Order.Free text g inputs c may_stop r true_of = true_of.2.2.is_text
 
 module _ (text : List ℕ) (p : Program) (g : Graph) (lowers : Lowers text p g) (o : RunOptions) where
   -- RUNS
@@ -106,17 +106,17 @@ module _ (text : List ℕ) (p : Program) (g : Graph) (lowers : Lowers text p g) 
   program_run : (h : Graph) (r : Report) → IsRunOf (graph_and_inputs text p g) o h r → (h ≡ g) × IsProgramRun text g o r
   program_run h r run =
       let divided = inputs_are_divided g (inputs_of text) has_text run.parts in
-      let is = its_text run.mode run.parts.text h run.inputs (config_of o) false r run.truth in
+      let is = its_text run.order run.parts.text h run.inputs (config_of o) false r run.truth in
       let same : h ≡ g = one_graph h g is.1 has_text (sym is.0 ∙ divided.0) in
-      let of_text : ReportsQuietly run.mode (text_of g) h run.inputs (config_of o) false r =
-      subst (λ (bytes : List ℕ). ReportsQuietly run.mode bytes h run.inputs (config_of o) false r) divided.0 run.truth in (
+      let of_text : ReportsQuietly run.order (text_of g) h run.inputs (config_of o) false r =
+      subst (λ (bytes : List ℕ). ReportsQuietly run.order bytes h run.inputs (config_of o) false r) divided.0 run.truth in (
         same,
         record {
           inputs = run.inputs;
           integers = ap integers_of (sym divided.1) ∙ run.integers;
-          mode = run.mode;
+          order = run.order;
           named = run.named;
-          truth = subst (λ (x : Graph). ReportsQuietly run.mode (text_of g) x run.inputs (config_of o) false r) same of_text;
+          truth = subst (λ (x : Graph). ReportsQuietly run.order (text_of g) x run.inputs (config_of o) false r) same of_text;
         },
       )
 

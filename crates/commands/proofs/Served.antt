@@ -12,7 +12,7 @@ use Rattle.schedule.specs.Unlisted.{Quietly}
 use Rattle.oracle.specs.declared.report.MeanEnd.{MeanEnd}
 use Rattle.oracle.specs.declared.report.Full.{Full}
 use Rattle.oracle.specs.Reporting.{IsMeant}
-use Rattle.command_line.specs.declared.Mode.{Mode}
+use Rattle.driver.specs.declared.order.Order.{Order}
 use Rattle.command_line.specs.declared.RunOptions.{RunOptions}
 use Rattle.command_line.specs.declared.inputs.Inputs.{Inputs}
 use Rattle.driver.specs.declared.fault.Fault.{Fault}
@@ -23,7 +23,7 @@ use Rattle.commands.specs.Input.{graph_length, integers_of, IsBadInput}
 use Rattle.driver.specs.Objects.{ShowsObjectIn}
 use Rattle.driver.specs.Refused.{IsGoodText, IsReady, IsReadyObject, IsBadText, IsNoObject, IsRefused, IsRefusedMeaning, IsRefusedObject}
 use Rattle.commands.specs.Refusals.{refused_as}
-use Rattle.commands.specs.Served.{Prints, Parts, config_of, IsRefusedLine, IsNoRunOf, WhyNoRun, IsMeaningOf, IsNoMeaningOf, WhyNoMeaning, IsExecOf, IsNoExecOf}
+use Rattle.commands.specs.Served.{Prints, Parts, config_of, order_in, IsRefusedLine, IsNoRunOf, WhyNoRun, IsMeaningOf, IsNoMeaningOf, WhyNoMeaning, IsExecOf, IsNoExecOf}
 
 -- WHAT IS PRINTED
 pub printed : (E : Type 0) (x : ⊤) (o : Outcome) (old new : Option (List ℕ)) (sent text : List ℕ) (outcome : Outcome) → sent ≡ text → o ≡ outcome
@@ -41,16 +41,16 @@ pub bad_line_of : (lines : List ℕ) (f : LinesFault) (n : ℕ) → f ≡ LinesF
 bad_line_of lines f n is bad = subst (λ (x : LinesFault). IsBadInput lines x) is bad
 
 -- EXEC
-pub executed : (bytes : List ℕ) (o : RunOptions) (inputs : List ℤ) (r : Report) (mode : Mode) → o.mode ≡ Some mode → (c : Config) → c ≡ config_of o
-    → (may_stop : Bool) → may_stop ≡ false → Quietly (ShowsObjectIn mode bytes inputs c may_stop) r
+pub executed : (bytes : List ℕ) (o : RunOptions) (inputs : List ℤ) (r : Report) (order : Order) → order_in o ≡ Some order → (c : Config) → c ≡ config_of o
+    → (may_stop : Bool) → may_stop ≡ false → Quietly (ShowsObjectIn order bytes inputs c may_stop) r
     → IsExecOf bytes o (Inputs.Integers (record { items = inputs })) r
-executed bytes o inputs r mode named c same may_stop never shows = record {
+executed bytes o inputs r order named c same may_stop never shows = record {
   inputs = inputs;
   integers = refl;
-  mode = mode;
+  order = order;
   named = named;
-  shows = subst (λ (b : Bool). Quietly (ShowsObjectIn mode bytes inputs (config_of o) b) r) never
-      (subst (λ (d : Config). Quietly (ShowsObjectIn mode bytes inputs d may_stop) r) same shows);
+  shows = subst (λ (b : Bool). Quietly (ShowsObjectIn order bytes inputs (config_of o) b) r) never
+      (subst (λ (d : Config). Quietly (ShowsObjectIn order bytes inputs d may_stop) r) same shows);
 }
 
 pub refused_exec : (bytes : List ℕ) (o : RunOptions) (inputs : List ℤ) (c : Config) → c ≡ config_of o → (fault : Fault) → IsRefusedObject bytes inputs c fault
@@ -58,9 +58,9 @@ pub refused_exec : (bytes : List ℕ) (o : RunOptions) (inputs : List ℤ) (c : 
 refused_exec bytes o inputs c same fault refused f reported = inr
     (inr (inl (fault, subst (λ (d : Config). IsRefusedObject bytes inputs d fault) same refused, reported)))
 
-pub no_mode_to_exec : (bytes : List ℕ) (o : RunOptions) (inputs : List ℤ) (c : Config) → c ≡ config_of o → IsReadyObject bytes inputs c → o.mode ≡ None
+pub no_mode_to_exec : (bytes : List ℕ) (o : RunOptions) (inputs : List ℤ) (c : Config) → c ≡ config_of o → IsReadyObject bytes inputs c → order_in o ≡ None
     → IsNoExecOf bytes o (Inputs.Integers (record { items = inputs })) (Refusal.Start StartFault.BadConfig)
-no_mode_to_exec bytes o inputs c same ready mode = inr (inr (inr (subst (λ (d : Config). IsReadyObject bytes inputs d) same ready, mode, refl)))
+no_mode_to_exec bytes o inputs c same ready order = inr (inr (inr (subst (λ (d : Config). IsReadyObject bytes inputs d) same ready, order, refl)))
 
 pub unopened_exec : (bytes : List ℕ) (o : RunOptions) (ins : Inputs) (fault : Fault) → IsNoObject bytes fault → (f : Refusal) → f ≡ refused_as fault
     → IsNoExecOf bytes o ins f
@@ -89,12 +89,12 @@ module _ (input text lines : List ℕ) (whole : text ++ lines ≡ input) (end : 
         (inl (fault, subst (λ (d : Config). IsRefused text inputs d fault) same refused, reported)));
   }
 
-  pub no_mode : (o : RunOptions) (inputs : List ℤ) → integers_of lines ≡ Ok inputs → (c : Config) → c ≡ config_of o → IsReady text inputs c → o.mode ≡ None
+  pub no_mode : (o : RunOptions) (inputs : List ℤ) → integers_of lines ≡ Ok inputs → (c : Config) → c ≡ config_of o → IsReady text inputs c → order_in o ≡ None
       → IsNoRunOf input o (Refusal.Start StartFault.BadConfig)
-  no_mode o inputs integers c same ready mode = record {
+  no_mode o inputs integers c same ready order = record {
     parts = parts;
     why = inr (subst (λ (z : Result (List ℤ) ℕ). WhyNoRun z text o (Refusal.Start StartFault.BadConfig)) (sym integers)
-        (inr (subst (λ (d : Config). IsReady text inputs d) same ready, mode, refl)));
+        (inr (subst (λ (d : Config). IsReady text inputs d) same ready, order, refl)));
   }
 
   pub bad_line : (o : RunOptions) (n : ℕ) (f : Refusal) → integers_of lines ≡ Err n → IsRefusedLine text n f → IsNoRunOf input o f

@@ -1,5 +1,5 @@
 -- Runs of a graph in random orders: whether their reports agree, and what `orders` prints of them.
-use Rattle.std.specs.Prelude.{◌≡◌, ℕ, ◌+◌, ◌<◌, ℤ, ◌⊎◌, List, ◌++◌, Option, Result, Ok, Err, decimal, codes}
+use Rattle.std.specs.Prelude.{◌≡◌, ℕ, ◌+◌, ◌<◌, ℤ, ◌⊎◌, true, false, List, ◌++◌, Option, Result, Ok, Err, decimal, codes}
 use Rattle.semantics.specs.Graph.{Graph}
 use Rattle.semantics.specs.Text.{line}
 use Rattle.semantics.specs.Report.{Report}
@@ -13,7 +13,7 @@ use Rattle.driver.specs.Refused.{IsReady, IsRefused}
 use Rattle.outcomes.specs.declared.refusal.Refusal.{Refusal}
 use Rattle.commands.specs.Input.{integers_of}
 use Rattle.commands.specs.Ordered.{first_number, picks_from}
-use Rattle.commands.specs.Served.{Parts, Prints, Refuses, IsReportedAs, IsRefusedLine, config_of}
+use Rattle.commands.specs.Served.{Parts, Prints, Refuses, IsReportedAs, IsRefusedLine, config_of, is_order}
 use Rattle.outcomes.specs.declared.outcome.Outcome.{Outcome}
 use Rattle.outcomes.specs.Outcomes.{ending_of}
 use Rattle.commands.specs.Feed.{IsFeed}
@@ -58,6 +58,7 @@ pub record Agree (input : List ℕ) (o : RunOptions) (count seed : ℕ) (g : Gra
   pub inputs : List ℤ
   pub feed : IsFeed input text inputs
   pub some : 0 < count
+  pub ordered : is_order o.take ≡ true
   pub all : AllAgree text inputs (config_of o) seed count g r
 
 -- Order 0 has the report a, and order k, the first whose report differs from it, has b.
@@ -65,13 +66,18 @@ pub record Differ (input : List ℕ) (o : RunOptions) (count seed : ℕ) (g : Gr
   pub text : List ℕ
   pub inputs : List ℤ
   pub feed : IsFeed input text inputs
+  pub ordered : is_order o.take ≡ true
   pub first_other : IsFirstOther text inputs (config_of o) seed count g a k h b
 
--- Why nothing is reported of any order: the first cause in the order of the work. That no order was asked for is reported only where
--- a run is ready.
+-- no order was asked for, or none that there is
+abbrev pub HasNoOrder : RunOptions → ℕ → Type 0
+HasNoOrder o count = (count ≡ 0) ⊎ (is_order o.take ≡ false)
+
+-- Why nothing is reported of any order: the first cause in the order of the work. That no order was asked for, or none that there is, is reported
+-- only where a run is ready.
 abbrev pub WhyNoOrder : Result (List ℤ) ℕ → List ℕ → RunOptions → ℕ → Refusal → Type 0
-WhyNoOrder (Ok inputs) text o count f = IsReportedAs (IsRefused text inputs (config_of o)) f ⊎ (IsReady text inputs (config_of o) × (count ≡ 0)
-    × (f ≡ Refusal.Start StartFault.BadConfig))
+WhyNoOrder (Ok inputs) text o count f = IsReportedAs (IsRefused text inputs (config_of o)) f ⊎ (IsReady text inputs (config_of o)
+    × HasNoOrder o count × (f ≡ Refusal.Start StartFault.BadConfig))
 WhyNoOrder (Err n) text o count f = IsRefusedLine text n f
 
 pub record IsNoOrderOf (input : List ℕ) (o : RunOptions) (count : ℕ) (f : Refusal) : Type 0 where

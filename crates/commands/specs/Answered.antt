@@ -15,6 +15,7 @@ use Rattle.lowered_text.specs.Texts.{graph_and_inputs, map_of}
 use Rattle.commands.specs.Assembled.{PrintsAssembled}
 use Rattle.commands.specs.Lowered.{PrintsLowered}
 use Rattle.commands.specs.Agreed.{PrintsOrders}
+use Rattle.commands.specs.Enough.{PrintsEnough}
 use Rattle.commands.specs.Traced.{PrintsTrace}
 use Rattle.commands.specs.Profiled.{format_of, PrintsProfile}
 use Rattle.commands.specs.Refusals.{unread_as}
@@ -25,6 +26,7 @@ abbrev pub Answers : {E : Type 0} → Result Outcome E → Option (List ℕ) →
 Answers result old new input Request.Check = PrintsCheck result old new input
 Answers result old new input Request.Compile = PrintsObject result old new input
 Answers result old new input (Request.Run o) = PrintsRun result old new input o
+Answers result old new input (Request.RunEnough o) = PrintsEnough result old new input o
 Answers result old new input (Request.Dis Literals.Omitted) = PrintsOf listing_of result old new input
 Answers result old new input (Request.Dis Literals.Included) = PrintsOf listing_with_literals_of result old new input
 Answers result old new input Request.Upgrade = PrintsOf upgrade_of result old new input

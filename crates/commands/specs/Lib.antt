@@ -5,6 +5,7 @@ pub mod Feed
 pub mod Ordered
 pub mod Played
 pub mod Agreed
+pub mod Enough
 pub mod Traced
 pub mod Profiled
 pub mod Answered

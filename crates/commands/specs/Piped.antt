@@ -10,7 +10,7 @@ use Rattle.report_text.specs.ReportText.{report_text}
 use Rattle.command_line.specs.Words.{asked}
 use Rattle.command_line.specs.declared.Asked.{Asked}
 use Rattle.command_line.specs.declared.Lowering.{Lowering}
-use Rattle.command_line.specs.declared.Mode.{Mode}
+use Rattle.driver.specs.declared.order.Order.{Order}
 use Rattle.command_line.specs.declared.Request.{Request}
 use Rattle.command_line.specs.declared.RunOptions.{RunOptions}
 use Rattle.driver.specs.Headline.{ReportsQuietly}
@@ -25,7 +25,7 @@ use Rattle.commands.specs.declared.input.InputFault.{InputFault}
 use Rattle.commands.specs.Input.{graph_length, integers_of}
 use Rattle.commands.specs.Refusals.{unread_as}
 use Rattle.commands.specs.Lowered.{PrintsLowered}
-use Rattle.commands.specs.Served.{Parts, Prints, Refuses, PrintsRun, WhyNoRun, config_of}
+use Rattle.commands.specs.Served.{Parts, Prints, Refuses, PrintsRun, WhyNoRun, config_of, order_in}
 use Rattle.commands.specs.Answered.{ServesWords}
 
 -- WHERE THE TEXT OF A GRAPH ENDS: whatever follows it, its last line is the first one that begins with `main `.
@@ -52,9 +52,9 @@ LoweredGraphsHaveTexts = (text : List ℕ) (p : Program) (g : Graph) → Lowers 
 pub record IsProgramRun (text : List ℕ) (g : Graph) (o : RunOptions) (r : Report) : Type 0 where
   pub inputs : List ℤ
   pub integers : integers_of (inputs_of text) ≡ Ok inputs
-  pub mode : Mode
-  pub named : o.mode ≡ Some mode
-  pub truth : ReportsQuietly mode (text_of g) g inputs (config_of o) false r
+  pub order : Order
+  pub named : order_in o ≡ Some order
+  pub truth : ReportsQuietly order (text_of g) g inputs (config_of o) false r
 
 -- why there is none
 abbrev pub IsNoProgramRun : List ℕ → Graph → RunOptions → Refusal → Type 0

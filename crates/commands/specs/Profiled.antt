@@ -5,6 +5,7 @@ use Rattle.semantics.specs.Graph.{Graph}
 use Rattle.semantics.specs.declared.report.End.{End}
 use Rattle.semantics.specs.Report.{Report}
 use Rattle.schedule.specs.declared.config.Config.{Config}
+use Rattle.schedule.specs.declared.config.StartFault.{StartFault}
 use Rattle.oracle.specs.declared.report.MeanEnd.{MeanEnd}
 use Rattle.oracle.specs.Gathering.{wave_counts}
 use Rattle.oracle.specs.Waves.{AreWavesOf}
@@ -13,7 +14,7 @@ use Rattle.profile_text.specs.declared.lines.MachineRow.{MachineRow}
 use Rattle.profile_text.specs.declared.sufficient.Sufficient.{Sufficient}
 use Rattle.profile_text.specs.Picture.{greatest_from, svg_text}
 use Rattle.profile_text.specs.ProfileText.{profile_text}
-use Rattle.command_line.specs.declared.Mode.{Mode}
+use Rattle.driver.specs.declared.order.Order.{Order}
 use Rattle.command_line.specs.declared.RunOptions.{RunOptions}
 use Rattle.command_line.specs.declared.sizes.Sizes.{Sizes}
 use Rattle.command_line.specs.Words.{has_size}
@@ -22,12 +23,12 @@ use Rattle.driver.specs.declared.needs.MachineNeeds.{MachineNeeds}
 use Rattle.driver.specs.Needs.{AreNeedsOf, AreUntold}
 use Rattle.driver.specs.Objects.{RunsObject}
 use Rattle.driver.specs.Orders.{RunsByRounds}
-use Rattle.driver.specs.Refused.{IsGoodText, IsRefused, IsRefusedMeaning}
+use Rattle.driver.specs.Refused.{IsGoodText, IsReady, IsRefused, IsRefusedMeaning}
 use Rattle.commands.specs.declared.profiling.ProfileFormat.{ProfileFormat}
 use Rattle.commands.specs.declared.profiling.Quantity.{Quantity}
 use Rattle.outcomes.specs.declared.refusal.Refusal.{Refusal}
 use Rattle.commands.specs.Input.{integers_of}
-use Rattle.commands.specs.Served.{Parts, Prints, Refuses, IsReportedAs, IsRefusedLine}
+use Rattle.commands.specs.Served.{Parts, Prints, Refuses, IsReportedAs, IsRefusedLine, config_of, is_order}
 use Rattle.outcomes.specs.Outcomes.{exit_status}
 use Rattle.outcomes.specs.declared.outcome.Ending.{Ending}
 use Rattle.outcomes.specs.declared.outcome.FailedRow.{FailedRow}
@@ -52,7 +53,7 @@ pub record IsRow (text : List ℕ) (inputs : List ℤ) (o : RunOptions) (element
   pub bytes : List ℕ
   pub report : Report
   pub moments : List Moment
-  pub watched : IsWatched Mode.Rounds text graph bytes inputs (config_with o elements) false report moments
+  pub watched : IsWatched Order.InRounds text graph bytes inputs (config_with o elements) false report moments
   -- a run that was refused memory has no row
   pub kept : report.end ≢ End.Memory
   pub number : row.elements ≡ elements
@@ -87,6 +88,12 @@ pub record IsNoRow (text : List ℕ) (inputs : List ℤ) (o : RunOptions) (z : S
   pub rows : List MachineRow
   pub earlier : AreRows text inputs o (sizes_below z elements) rows
 
+-- No machine takes its tokens in the order that is asked for, which is reported only where a run is ready.
+abbrev pub LacksOrder : List ℕ → List ℤ → RunOptions → Refusal → Type 0
+LacksOrder text inputs o f =
+    (is_order o.take ≡ false)
+    × (IsReportedAs (IsRefused text inputs (config_of o)) f ⊎ (IsReady text inputs (config_of o) × (f ≡ Refusal.Start StartFault.BadConfig)))
+
 -- WHAT SUFFICES in every order, as it is printed: nothing, where no loop's bound can be as many as the iterations.
 abbrev pub shown_of : MachineNeeds → Sufficient
 shown_of n = record { frames = n.frames; steps = n.steps; iterations = n.iterations }
@@ -112,6 +119,7 @@ pub record IsProfileOf (input : List ℕ) (o : RunOptions) (z : Sizes) (format :
   pub waves : AreWavesOf g inputs o.steps end counts
   -- and they are the ones that the definition gives, which finds all that is enabled and then does it
   pub reported : wave_counts g inputs o.steps ≡ Some (end, counts)
+  pub ordered : format ≡ ProfileFormat.Lines → is_order o.take ≡ true
   pub machine : format ≡ ProfileFormat.Lines → AreRows text inputs o (sizes_below z 64) rows
   pub sufficient : format ≡ ProfileFormat.Lines → IsSufficient g inputs o.steps enough
 
@@ -120,7 +128,7 @@ abbrev pub WhyNoProfile : Result (List ℤ) ℕ → List ℕ → RunOptions → 
 WhyNoProfile (Ok inputs) text o z format f =
     IsReportedAs (IsRefusedMeaning text inputs) f
     ⊎ (((g : Graph) × (end : MeanEnd) × (counts : List ℕ) × IsGoodText text g × AreWavesOf g inputs o.steps end counts)
-    × (format ≡ ProfileFormat.Lines) × IsNoRow text inputs o z f)
+    × (format ≡ ProfileFormat.Lines) × (IsNoRow text inputs o z f ⊎ LacksOrder text inputs o f))
 WhyNoProfile (Err n) text o z format f = IsRefusedLine text n f
 
 pub record IsNoProfileOf (input : List ℕ) (o : RunOptions) (z : Sizes) (format : ProfileFormat) (f : Refusal) : Type 0 where

@@ -1,5 +1,5 @@
 -- What the commands print, and with which outcomes.
-use Rattle.std.specs.Prelude.{◌≡◌, ℕ, ℤ, Bool, true, false, ◌⊎◌, List, ◌++◌, length, Option, Some, None, unwrap_or, Result, Ok, Err, codes}
+use Rattle.std.specs.Prelude.{◌≡◌, ℕ, ℤ, Bool, true, false, ◌⊎◌, List, ◌++◌, length, Option, Some, None, option_map, unwrap_or, Result, Ok, Err, codes}
 use Rattle.std.specs.Io.KnownBytes.{Appends}
 use Rattle.tags.specs.declared.value.Value.{Value}
 use Rattle.semantics.specs.Graph.{Graph}
@@ -18,6 +18,10 @@ use Rattle.dot.specs.GraphDot.{graph_dot}
 use Rattle.report_text.specs.ReportText.{report_text, meaning_text, object_report_text}
 use Rattle.command_line.specs.declared.Mode.{Mode}
 use Rattle.command_line.specs.declared.RunOptions.{RunOptions}
+use Rattle.command_line.specs.declared.Take.{Take}
+use Rattle.schedule.specs.declared.take.Take.TheVariants as tokens
+use Rattle.driver.specs.declared.order.Order.{Order}
+use Rattle.driver.specs.Orders.{order_of}
 use Rattle.command_line.specs.declared.inputs.Inputs.{Inputs}
 use Rattle.driver.specs.declared.fault.Fault.{Fault}
 use Rattle.outcomes.specs.declared.refusal.Refusal.{Refusal}
@@ -63,22 +67,45 @@ turn_of o = unwrap_or o.turn (usual_turn o.mode)
 abbrev pub config_of : RunOptions → Config
 config_of o = record { elements = o.elements; frames = o.frames; steps = o.steps; turn = turn_of o }
 
+-- whether runs in rounds, and runs in random orders, take tokens in this order: none takes them by depth yet
+abbrev pub is_order : Option Take → Bool
+is_order (Some Take.Oldest) = true
+is_order (Some Take.Depth) = false
+is_order None = false
+
+-- by depth, where this mode exists and there are such runs in it
+abbrev pub by_depth : Option Mode → Option Order
+by_depth (Some Mode.One) = Some (Order.InTurn tokens.Depth)
+by_depth (Some Mode.Rounds) = None
+by_depth (Some Mode.Free) = None
+by_depth None = None
+
+-- of this mode, with this order of the tokens
+abbrev pub order_given : Option Mode → Option Take → Option Order
+order_given mode (Some Take.Oldest) = option_map (λ m. order_of m tokens.Oldest) mode
+order_given mode (Some Take.Depth) = by_depth mode
+order_given mode None = None
+
+-- the order that is asked for, where there are runs in it
+abbrev pub order_in : RunOptions → Option Order
+order_in o = order_given o.mode o.take
+
 -- a true report of a run, in the mode that is asked for, of the graph that the input has, on the integers that follow it
 pub record IsRunOf (input : List ℕ) (o : RunOptions) (g : Graph) (r : Report) : Type 0 where
   pub parts : Parts input
   pub inputs : List ℤ
   pub integers : integers_of parts.lines ≡ Ok inputs
-  pub mode : Mode
-  pub named : o.mode ≡ Some mode
-  pub truth : ReportsQuietly mode parts.text g inputs (config_of o) false r
+  pub order : Order
+  pub named : order_in o ≡ Some order
+  pub truth : ReportsQuietly order parts.text g inputs (config_of o) false r
 
 -- Why there is no report: the first cause in the order of the work. A line that is not an integer is reported only of a graph that has an
--- object, and a mode that does not exist only where a run is ready.
+-- object, and a mode or an order that does not exist only where a run is ready.
 abbrev pub IsRefusedLine : List ℕ → ℕ → Refusal → Type 0
 IsRefusedLine text n f = IsReportedAs (IsRefusedText text) f ⊎ (((g : Graph) × (bytes : List ℕ) × IsCompiled text g bytes) × (f ≡ Refusal.InputLine n))
 
 abbrev pub WhyNoRun : Result (List ℤ) ℕ → List ℕ → RunOptions → Refusal → Type 0
-WhyNoRun (Ok inputs) text o f = IsReportedAs (IsRefused text inputs (config_of o)) f ⊎ (IsReady text inputs (config_of o) × (o.mode ≡ None)
+WhyNoRun (Ok inputs) text o f = IsReportedAs (IsRefused text inputs (config_of o)) f ⊎ (IsReady text inputs (config_of o) × (order_in o ≡ None)
     × (f ≡ Refusal.Start StartFault.BadConfig))
 WhyNoRun (Err n) text o f = IsRefusedLine text n f
 
@@ -144,15 +171,15 @@ PrintsDot result old new input false = PrintsPicture result old new input
 pub record IsExecOf (bytes : List ℕ) (o : RunOptions) (ins : Inputs) (r : Report) : Type 0 where
   pub inputs : List ℤ
   pub integers : ins ≡ Inputs.Integers (record { items = inputs })
-  pub mode : Mode
-  pub named : o.mode ≡ Some mode
-  pub shows : Quietly (ShowsObjectIn mode bytes inputs (config_of o) false) r
+  pub order : Order
+  pub named : order_in o ≡ Some order
+  pub shows : Quietly (ShowsObjectIn order bytes inputs (config_of o) false) r
 
--- Why there is no report: what is wrong with the object first, then with the inputs, then with the options, and last a mode that does not
--- exist. Of more than 16 inputs no more is said: no object takes more than 16.
+-- Why there is no report: what is wrong with the object first, then with the inputs, then with the options, and last a mode or an order that does
+-- not exist. Of more than 16 inputs no more is said: no object takes more than 16.
 abbrev pub WhyNoExec : Inputs → List ℕ → RunOptions → Refusal → Type 0
 WhyNoExec (Inputs.Integers inputs) bytes o f =
-    IsReportedAs (IsRefusedObject bytes inputs.items (config_of o)) f ⊎ (IsReadyObject bytes inputs.items (config_of o) × (o.mode ≡ None)
+    IsReportedAs (IsRefusedObject bytes inputs.items (config_of o)) f ⊎ (IsReadyObject bytes inputs.items (config_of o) × (order_in o ≡ None)
     × (f ≡ Refusal.Start StartFault.BadConfig))
 WhyNoExec (Inputs.NoInteger n) bytes o f = (first_refusal bytes ≡ None) × (f ≡ Refusal.InputLine n)
 WhyNoExec Inputs.TooMany bytes o f = (first_refusal bytes ≡ None) × (f ≡ Refusal.Start StartFault.WrongInputs)

@@ -9,14 +9,14 @@ use Rattle.report_text.specs.ReportText.{report_text}
 use Rattle.trace_text.specs.TraceText.{trace_text, chrome_text}
 use Rattle.command_line.specs.declared.EventFormat.{EventFormat}
 use Rattle.command_line.specs.declared.Format.{Format}
-use Rattle.command_line.specs.declared.Mode.{Mode}
+use Rattle.driver.specs.declared.order.Order.{Order}
 use Rattle.command_line.specs.declared.RunOptions.{RunOptions}
 use Rattle.driver.specs.Disassembled.{listing_of}
 use Rattle.driver.specs.ListedEvents.{ListsEvents, IsWatched, HasBooks}
 use Rattle.html_text.specs.DataText.{data_text}
 use Rattle.html_text.specs.PageText.{html_text}
 use Rattle.outcomes.specs.declared.refusal.Refusal.{Refusal}
-use Rattle.commands.specs.Served.{Prints, Refuses, IsNoRunOf, config_of}
+use Rattle.commands.specs.Served.{Prints, Refuses, IsNoRunOf, config_of, order_in}
 use Rattle.outcomes.specs.declared.outcome.Outcome.{Outcome}
 use Rattle.outcomes.specs.Outcomes.{ending_of}
 use Rattle.commands.specs.Feed.{IsFeed}
@@ -27,9 +27,9 @@ pub record IsTraceOf (input : List ℕ) (o : RunOptions) (g : Graph) (bytes : Li
   pub text : List ℕ
   pub inputs : List ℤ
   pub feed : IsFeed input text inputs
-  pub mode : Mode
-  pub named : o.mode ≡ Some mode
-  pub watched : IsWatched mode text g bytes inputs (config_of o) false r moments
+  pub order : Order
+  pub named : order_in o ≡ Some order
+  pub watched : IsWatched order text g bytes inputs (config_of o) false r moments
 
 -- how many of `count` events are before the last ones that are asked for
 abbrev pub first_of : ℕ → Option ℕ → ℕ
@@ -70,9 +70,9 @@ pub record IsPageOf (input : List ℕ) (o : RunOptions) (first : ℕ) (g : Graph
   pub text : List ℕ
   pub inputs : List ℤ
   pub feed : IsFeed input text inputs
-  pub mode : Mode
-  pub named : o.mode ≡ Some mode
-  pub lists : ListsEvents mode text g bytes inputs (config_of o) false r
+  pub order : Order
+  pub named : order_in o ≡ Some order
+  pub lists : ListsEvents order text g bytes inputs (config_of o) false r
   pub kept : HasBooks bytes inputs (config_of o) first r books
 
 -- where there is no page, the refusal has the cause for which `run` has no report

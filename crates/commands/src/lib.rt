@@ -5,6 +5,7 @@
 pub mod assembling;
 mod comparing;
 mod drawing;
+mod enough;
 pub mod feed;
 pub mod input;
 pub mod lowered;

@@ -1,11 +1,12 @@
 //! Runs of a graph in random orders.
 
-ghost use Rattle.std.specs.Prelude.{◌≡◌, ◌<◌, ℕ, List, IfErr, IfOk, IfSome, IsNone, MatchResult};
+ghost use Rattle.std.specs.Prelude.{◌≡◌, ◌<◌, ℕ, List, IfErr, IfOk, IfSome, IsNone, MatchResult, false, true};
 ghost use Rattle.semantics.specs.Graph as Graphs;
 ghost use Rattle.driver.specs.Refused.{IsCompiled, IsRefused};
 ghost use Rattle.sink.specs.Sends.{Sends};
-ghost use Rattle.commands.specs.Agreed.{Agree, AllAgree, Differ, IsFirstOther, IsNoOrderOf, IsOrder, PrintsOrders, differing_text, order_text};
-ghost use Rattle.commands.specs.Agreed.{same_line, same_text};
+ghost use Rattle.commands.specs.Agreed.{Agree, AllAgree, Differ, HasNoOrder, IsFirstOther, IsNoOrderOf, IsOrder, PrintsOrders, differing_text};
+ghost use Rattle.commands.specs.Agreed.{order_text, same_line, same_text};
+ghost use Rattle.commands.specs.Served.{is_order};
 ghost use Rattle.commands.specs.Played.{PlaysDrawn};
 
 use crate::comparing::are_same;
@@ -13,7 +14,7 @@ use crate::drawing::{draw, first_number};
 use crate::feed::{option_refusal, read_feed};
 use crate::refusal::fault_refusal;
 use crate::refusal_text::write_numbered;
-use crate::serving::{config_of, refuse};
+use crate::serving::{config_of, is_order, refuse};
 use command_line::RunOptions;
 use driver::compiling::{Compiled, compile};
 use driver::fault::Fault;
@@ -161,8 +162,17 @@ fn run_orders<'a, A: Allocator + Clone>(
     Ok(Orders { checked, reports })
 }
 
+/// Whether no order is asked for, or none that there is.
+fn lacks_order(options: &RunOptions, count: u64) -> bool
+    ensures none { result ≡ true → HasNoOrder options.now count }
+    ensures some { result ≡ false → 0 < count }
+    ensures ordered { result ≡ false → is_order options.now.take ≡ true }
+{
+    count == 0 || !is_order(options.take)
+}
+
 /// Runs the graph of the input, on the integers after it, in `count` orders. The causes of a refusal are checked in the order of the work;
-/// whether any order was asked for is checked last.
+/// whether any order was asked for, and one that there is, is checked last.
 fn make_orders<'a, A: Allocator + Clone>(
     alloc: A,
     input: &'a [u8],
@@ -180,7 +190,7 @@ fn make_orders<'a, A: Allocator + Clone>(
         Err(refusal) => return Err(refusal),
     };
     let config = config_of(options);
-    if count == 0 || config.elements == 0 {
+    if config.elements == 0 || lacks_order(options, count) {
         return Err(option_refusal(alloc, feed.text, &feed.integers, config));
     }
     match run_orders(alloc, feed.text, &feed.integers, config, count, seed) {

@@ -15,14 +15,15 @@ ghost use Rattle.commands.specs.Traced.{IsPageOf, PrintsPage, first_of, page_tex
 
 use crate::feed::{option_refusal, read_feed};
 use crate::refusal::fault_refusal;
-use crate::serving::{config_of, refuse};
+use crate::serving::{config_of, order_in, refuse};
 use crate::tracing::{events_from, first_of_last};
-use command_line::{Mode, RunOptions};
+use command_line::RunOptions;
 use disassembler::list;
 use driver::books::books_of;
 use driver::compiling::{Compiled, compile};
-use driver::emulation::emulate_object;
+use driver::emulation::run_object;
 use driver::fault::Fault;
+use driver::order::Order;
 use driver::resources::Resources;
 use graph::Graph;
 use html_text::{Part, write_data, write_mark, write_part};
@@ -134,22 +135,21 @@ struct ReportedRun<'a, A: Allocator> {
     report: Report<A>,
 }
 
-/// Compiles the graph of the text, and runs it in the given mode.
+/// Compiles the graph of the text, and runs it in the given order.
 fn list_text<'a, R: Threads + Wait + Sync, A: Allocator + Clone + Send + Sync, G: Gate + Sync>(
     resources: Resources<'_, A, R, G>,
     text: &'a [u8],
     inputs: &[i64],
     config: Config,
-    mode: Mode,
+    order: Order,
 ) -> Result<ReportedRun<'a, A>, Fault>
     ensures { MatchResult result
-        (λ l. ListsEvents mode text.now l.compiled.checked l.compiled.object.bytes inputs.now config G.may_stop l.report)
+        (λ l. ListsEvents order text.now l.compiled.checked l.compiled.object.bytes inputs.now config G.may_stop l.report)
         (IsRefused text.now inputs.now config) }
 {
     let compiled = compile(resources.alloc.clone()?, text)?;
     let bytes = compiled.object.bytes();
-    let Resources { alloc, rt, gate } = resources;
-    let report = emulate_object(alloc, bytes, inputs, config, mode, rt, gate)?;
+    let report = run_object(resources, bytes, inputs, config, order)?;
     Ok(ReportedRun { compiled, report })
 }
 
@@ -171,13 +171,13 @@ fn page_input<'a, R: Threads + Wait + Sync, A: Allocator + Clone + Send + Sync, 
         Err(refusal) => return Err(refusal),
     };
     let config = config_of(options);
-    let Some(mode) = options.mode else {
+    let Some(order) = order_in(options) else {
         return Err(option_refusal(resources.alloc, feed.text, &feed.integers, config));
     };
     let Ok(alloc) = resources.alloc.clone() else {
         return Err(Refusal::Memory);
     };
-    let reported_run = match list_text(resources, feed.text, &feed.integers, config, mode) {
+    let reported_run = match list_text(resources, feed.text, &feed.integers, config, order) {
         Ok(reported_run) => reported_run,
         Err(fault) => return Err(fault_refusal(fault)),
     };

@@ -1,19 +1,19 @@
 //! How much parallelism a graph has.
 
-ghost use Rattle.std.specs.Prelude.{◌≡◌, ◌≢◌, ◌+◌, ◌⊎◌, ℕ, List, [], false, true, length, map, IfErr, IfOk, MatchResult};
+ghost use Rattle.std.specs.Prelude.{◌≡◌, ◌≢◌, ◌+◌, ◌⊎◌, ℕ, List, [], false, true, length, map, IfErr, IfNone, IfOk, IfSome, MatchResult};
 ghost use Rattle.semantics.specs.Graph.{Graph};
 ghost use Rattle.profile_text.specs.Picture.{greatest_from};
 ghost use Rattle.semantics.specs.declared.report.End.{End};
 ghost use Rattle.sink.specs.Sends.{Sends};
 ghost use Rattle.outcomes.specs.declared.refusal.Refusal.{Refusal as AsRefusal};
 ghost use Rattle.driver.specs.Refused.{IsCompiled, IsGoodText, IsRefused};
-ghost use Rattle.commands.specs.Served.{IsReportedAs};
-ghost use Rattle.commands.specs.Profiled.{AreRows, IsChosen, IsNoProfileOf, IsNoRow, IsProfileOf, IsRow, IsSufficient, PrintsProfile, config_with, format_of};
-ghost use Rattle.commands.specs.Profiled.{quantity_in, profiled, sizes_below, sufficient_of, text_of, first_failed};
+ghost use Rattle.commands.specs.Served.{IsReportedAs, is_order};
+ghost use Rattle.commands.specs.Profiled.{AreRows, IsChosen, IsNoProfileOf, IsNoRow, IsProfileOf, IsRow, IsSufficient, LacksOrder, PrintsProfile};
+ghost use Rattle.commands.specs.Profiled.{config_with, format_of, quantity_in, profiled, sizes_below, sufficient_of, text_of, first_failed};
 
-use crate::feed::read_feed;
+use crate::feed::{option_refusal, read_feed};
 use crate::refusal::fault_refusal;
-use crate::serving::refuse;
+use crate::serving::{config_of, is_order, refuse};
 use command_line::{RunOptions, Sizes};
 use driver::compiling::compile_graph;
 use driver::meaning::{Waved, waves_text};
@@ -267,6 +267,29 @@ fn rows_beside<'a, R: Threads + Wait + Sync, A: Allocator + Clone + Send + Sync,
     }
 }
 
+/// The refusal of rows whose machines take their tokens in no order that there is: an earlier cause of refusal, if there is one, or else that.
+fn order_refusal<R: Threads + Wait + Sync, A: Allocator + Clone + Send + Sync, G: Gate + Sync>(
+    resources: &Resources<'_, A, R, G>,
+    text: &[u8],
+    inputs: &[i64],
+    options: &RunOptions,
+    format: ProfileFormat,
+) -> Option<Refusal>
+    ensures some { IfSome result (λ f. (f ≡ AsRefusal.Memory) ⊎ ((format ≡ ProfileFormat.Lines) × LacksOrder text.now inputs.now options.now f)) }
+    ensures none { IfNone result (format ≡ ProfileFormat.Lines → is_order options.now.take ≡ true) }
+{
+    if is_order(options.take) {
+        return None;
+    }
+    match format {
+        ProfileFormat::Lines => match resources.alloc.clone() {
+            Ok(room) => Some(option_refusal(room, text, inputs, config_of(options))),
+            Err(_refused) => Some(Refusal::Memory),
+        },
+        ProfileFormat::Picture => None,
+    }
+}
+
 /// What is printed of what a machine needs: nothing, where no loop's bound can be as many as the iterations.
 fn sufficient_of(needs: Option<MachineNeeds>) -> Option<Sufficient>
     ensures { result ≡ sufficient_of needs }
@@ -348,6 +371,9 @@ fn make_profile<'a, R: Threads + Wait + Sync, A: Allocator + Clone + Send + Sync
         Err(fault) => return Err(fault_refusal(fault)),
     };
     let inputs = &feed.integers;
+    if let Some(refusal) = order_refusal(resources, feed.text, inputs, options, format) {
+        return Err(refusal);
+    }
     let rows = match rows_beside(resources, &waves.checked, inputs, options, sizes, format) {
         Ok(rows) => rows,
         Err(refusal) => return Err(refusal),

@@ -205,6 +205,15 @@ pub(crate) fn write_numbered<W: Write>(writer: &mut W, words: &[u8], number: u64
     send_all(writer, &[words, digits.format(number).as_bytes(), b"\n"])
 }
 
+/// Writes the line of a refusal for this many frames.
+fn write_too_many_frames<W: Write>(writer: &mut W, frames: u128) -> io::Result<()>
+    ensures { Sends result (W.contents writer.old) (W.contents writer.new) (line (codes "refused: enough TooManyFrames " ++ decimal frames)) }
+{
+    let mut digits = Buffer::new();
+    let frames = digits.format(frames).as_bytes();
+    send_all(writer, &[b"refused: enough TooManyFrames ", frames, b"\n"])
+}
+
 /// Writes the line of a refusal. The writer is called until it has taken all of it; a call that takes no byte is a fault.
 /// After an `Err` a beginning of the line was written. Takes no memory.
 pub fn write_refusal<W: Write>(writer: &mut W, refusal: &Refusal) -> io::Result<()>
@@ -222,6 +231,8 @@ pub fn write_refusal<W: Write>(writer: &mut W, refusal: &Refusal) -> io::Result<
         Refusal::Start(fault) => {
             send_all(writer, &[b"refused: start ", start_word(*fault), b"\n"])
         }
+        Refusal::TooManyFrames(frames) => write_too_many_frames(writer, *frames),
+        Refusal::NotAtRest => send(writer, b"refused: enough NotAtRest\n"),
         Refusal::Object(fault) => {
             send_all(writer, &[b"refused: object ", object_word(*fault), b"\n"])
         }

@@ -3,11 +3,12 @@
 ghost use Rattle.std.specs.Prelude.{◌≡◌, MatchResult, None, drop, false, map};
 ghost use Rattle.object_view.specs.Checks.{first_refusal};
 ghost use Rattle.driver.specs.Disassembled.{listing_of, listing_with_literals_of, picture_of, upgrade_of};
-ghost use Rattle.commands.specs.Served.{config_of, turn_of, IsRunOf, IsNoRunOf, IsMeaningOf, IsNoMeaningOf, Refuses, PrintsRun, PrintsMeaning, PrintsCheck};
+ghost use Rattle.commands.specs.Served.{by_depth, config_of, is_order, order_in, turn_of, IsRunOf, IsNoRunOf, IsMeaningOf, IsNoMeaningOf, Refuses, PrintsRun, PrintsMeaning, PrintsCheck};
 ghost use Rattle.commands.specs.Served.{PrintsObject, PrintsOf, PrintsPicture, PrintsExec, IsExecOf, IsNoExecOf, Prints};
 ghost use Rattle.commands.specs.Answered.{Answers, ServesRequest, Says, ServesAsked, ServesWords, Serves};
 
 use crate::assembling::print_assembled;
+use crate::enough::print_run_with_enough;
 use crate::feed::{option_refusal, read_feed};
 use crate::input::{LinesFault, parse_integers, read_input, split_at_main};
 use crate::lowered::{print_lowered, print_map};
@@ -17,7 +18,7 @@ use crate::refusal::{fault_refusal, input_refusal};
 use crate::refusal_text::write_refusal;
 use crate::tracing::print_trace;
 use command_line::{
-    Asked, Inputs, Literals, Lowering, Mode, Request, RunOptions, read_words, version_line,
+    Asked, Inputs, Literals, Lowering, Mode, Request, RunOptions, Take, read_words, version_line,
 };
 use command_texts::{help_text, mistake_text};
 use dot::write_graph_dot;
@@ -27,6 +28,7 @@ use driver::meaning::{Meant, mean_text};
 use driver::objects::{
     ObjectRefusal, disassemble, disassemble_with_literals, draw_object, upgrade_object,
 };
+use driver::order::Order;
 use driver::resources::Resources;
 use driver::running::{check_start, open_code, run_code_quietly};
 use loaded::Loaded;
@@ -35,6 +37,7 @@ use report_text::{write_meaning, write_object_report, write_report};
 use rounds::Gate;
 use schedule::config::{Config, StartFault};
 use schedule::report::Report;
+use schedule::take::Take as TokenOrder;
 use sink::send;
 use std::alloc::{AllocError, Allocator, Global};
 use std::convert::AsStr;
@@ -76,8 +79,38 @@ pub(crate) fn config_of(options: &RunOptions) -> Config
     }
 }
 
+/// Whether runs in rounds, and runs in random orders, take tokens in this order. None takes them by depth yet.
+pub(crate) fn is_order(take: Option<Take>) -> bool
+    ensures { result ≡ is_order take }
+{
+    matches!(take, Some(Take::Oldest))
+}
+
+/// The order by depth, where this mode exists and there are such runs in it.
+fn by_depth(mode: Option<Mode>) -> Option<Order>
+    ensures { result ≡ by_depth mode }
+{
+    match mode {
+        Some(Mode::One) => Some(Order::InTurn(TokenOrder::Depth)),
+        Some(Mode::Rounds) => None,
+        Some(Mode::Free) => None,
+        None => None,
+    }
+}
+
+/// The order that is asked for, where there are runs in it.
+pub(crate) fn order_in(options: &RunOptions) -> Option<Order>
+    ensures { result ≡ order_in options.now }
+{
+    match options.take {
+        Some(Take::Oldest) => Some(Order::in_mode(options.mode?, TokenOrder::Oldest)),
+        Some(Take::Depth) => by_depth(options.mode),
+        None => None,
+    }
+}
+
 /// Runs the graph of the input on the integers after it. The causes of a refusal are checked in the order of the work; whether
-/// the mode exists is checked last.
+/// the order exists is checked last.
 fn run_input<'a, R: Threads + Wait + Sync, A: Allocator + Clone + Send + Sync, G: Gate + Sync>(
     resources: Resources<'_, A, R, G>,
     input: &'a [u8],
@@ -91,10 +124,10 @@ fn run_input<'a, R: Threads + Wait + Sync, A: Allocator + Clone + Send + Sync, G
         Err(refusal) => return Err(refusal),
     };
     let config = config_of(options);
-    let Some(mode) = options.mode else {
+    let Some(order) = order_in(options) else {
         return Err(option_refusal(resources.alloc, feed.text, &feed.integers, config));
     };
-    match run_text(resources, feed.text, &feed.integers, config, mode) {
+    match run_text(resources, feed.text, &feed.integers, config, order) {
         Ok(emulated) => Ok(emulated),
         Err(fault) => Err(fault_refusal(fault)),
     }
@@ -276,7 +309,7 @@ pub fn print_code_picture<W: Write>(bytes: &[u8], writer: &mut W) -> io::Result<
     }
 }
 
-/// Runs the object on these inputs. Whether the mode exists is checked last.
+/// Runs the object on these inputs. Whether the order exists is checked last.
 fn exec_object<R: Threads + Wait + Sync, A: Allocator + Clone + Send + Sync, G: Gate + Sync>(
     resources: Resources<'_, A, R, G>,
     code: &Loaded<'_, A>,
@@ -289,8 +322,8 @@ fn exec_object<R: Threads + Wait + Sync, A: Allocator + Clone + Send + Sync, G: 
         (IsNoExecOf code.now.bytes options.now (Inputs.Integers (record { items = inputs.now }))) }
 {
     let config = config_of(options);
-    match options.mode {
-        Some(mode) => match run_code_quietly(resources, code, inputs, config, mode) {
+    match order_in(options) {
+        Some(order) => match run_code_quietly(resources, code, inputs, config, order) {
             Ok(report) => Ok(report),
             Err(fault) => Err(fault_refusal(fault)),
         },
@@ -373,6 +406,7 @@ fn answer<R: Threads + Wait + Sync, A: Allocator + Clone + Send + Sync, G: Gate 
         Request::Lower(Lowering::Map) => print_map(resources.alloc, input, writer),
         Request::Upgrade => print_upgrade(input, writer),
         Request::Run(options) => print_run(resources, input, options, writer),
+        Request::RunEnough(options) => print_run_with_enough(resources, input, options, writer),
         Request::Mean { steps } => print_meaning(resources.alloc, input, *steps, writer),
         Request::Dot { code: true } => print_code_picture(input, writer),
         Request::Dot { code: false } => print_graph_picture(resources.alloc, input, writer),

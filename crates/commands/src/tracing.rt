@@ -13,10 +13,11 @@ ghost use Rattle.commands.specs.Traced.{IsTraceOf, PrintsEvents, PrintsTrace, ev
 use crate::feed::{option_refusal, read_feed};
 use crate::paging::print_page;
 use crate::refusal::fault_refusal;
-use crate::serving::{config_of, refuse};
-use command_line::{EventFormat, Format, Mode, RunOptions};
+use crate::serving::{config_of, order_in, refuse};
+use command_line::{EventFormat, Format, RunOptions};
 use driver::compiling::{Compiled, compile};
 use driver::fault::Fault;
+use driver::order::Order;
 use driver::resources::Resources;
 use driver::watching::{Watched, watch_object};
 use outcomes::{Ending, Outcome, Refusal};
@@ -141,25 +142,25 @@ fn write_trace<A: Allocator, W: Write>(
     }
 }
 
-/// Compiles the graph of the text, runs it in the given mode, and says what each event did.
+/// Compiles the graph of the text, runs it in the given order, and says what each event did.
 fn watch_text<'a, R: Threads + Wait + Sync, A: Allocator + Clone + Send + Sync, G: Gate + Sync>(
     resources: Resources<'_, A, R, G>,
     text: &'a [u8],
     inputs: &[i64],
     config: Config,
-    mode: Mode,
+    order: Order,
 ) -> Result<Traced<'a, A>, Fault>
     ensures { MatchResult result
-        (λ t. IsWatched mode text.now t.compiled.checked t.compiled.object.bytes inputs.now config G.may_stop t.watched.report t.watched.moments.items)
+        (λ t. IsWatched order text.now t.compiled.checked t.compiled.object.bytes inputs.now config G.may_stop t.watched.report t.watched.moments.items)
         (IsRefused text.now inputs.now config) }
 {
     let compiled = compile(resources.alloc.clone()?, text)?;
-    let watched = watch_object(resources, &compiled.object, inputs, config, mode)?;
+    let watched = watch_object(resources, &compiled.object, inputs, config, order)?;
     Ok(Traced { compiled, watched })
 }
 
 /// Runs the graph of the input on the integers after it, and says what each event did. The causes of a refusal are checked in the order of
-/// the work; whether the mode exists is checked last.
+/// the work; whether the order exists is checked last.
 fn watch_input<'a, R: Threads + Wait + Sync, A: Allocator + Clone + Send + Sync, G: Gate + Sync>(
     resources: Resources<'_, A, R, G>,
     input: &'a [u8],
@@ -175,10 +176,10 @@ fn watch_input<'a, R: Threads + Wait + Sync, A: Allocator + Clone + Send + Sync,
         Err(refusal) => return Err(refusal),
     };
     let config = config_of(options);
-    let Some(mode) = options.mode else {
+    let Some(order) = order_in(options) else {
         return Err(option_refusal(resources.alloc, feed.text, &feed.integers, config));
     };
-    match watch_text(resources, feed.text, &feed.integers, config, mode) {
+    match watch_text(resources, feed.text, &feed.integers, config, order) {
         Ok(traced) => Ok(traced),
         Err(fault) => Err(fault_refusal(fault)),
     }

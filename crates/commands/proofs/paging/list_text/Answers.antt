@@ -13,14 +13,14 @@ returns g c =
     let k = c.in_ok-compiled.compiled in
     let same = c.bytes-bytes.ensures in
     let shows = subst
-    (λ (bs : List ℕ). ShowsObject bs c.args.inputs.now c.args.config false (stops_in c.args.mode g.G.Gate.may_stop) c.in_ok-report.report) same
+    (λ (bs : List ℕ). ShowsObject bs c.args.inputs.now c.args.config false (stops_in c.args.order g.G.Gate.may_stop) c.in_ok-report.report) same
     c.in_ok-report.ensures.shows in
     record {
       compiled = c.in_ok-compiled.ensures;
-      truth = reports_in c.args.mode c.args.text.now k.checked k.object.bytes c.args.inputs.now c.args.config g.G.Gate.may_stop c.in_ok-report.report
+      truth = reports_in c.args.order c.args.text.now k.checked k.object.bytes c.args.inputs.now c.args.config g.G.Gate.may_stop c.in_ok-report.report
           c.in_ok-compiled.ensures shows
-          (λ one. subst (λ (bs : List ℕ). RunsObject bs c.args.inputs.now c.args.config RunsByTurns c.in_ok-report.report) same
-          (c.in_ok-report.ensures.turns one));
+          (λ take turns. subst (λ (bs : List ℕ). RunsObject bs c.args.inputs.now c.args.config (RunsByTurns take) c.in_ok-report.report) same
+          (c.in_ok-report.ensures.turns take turns));
       shows = shows;
     }
 

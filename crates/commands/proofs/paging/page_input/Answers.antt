@@ -16,7 +16,7 @@ returns-in-Err-clause-page g c = not_run c.args.input.now c.in-Err.refusal c.in-
 
 pub returns-in_default-clause-page : goal.returns-in_default-clause-page
 returns-in_default-clause-page g c =
-    mode_refused c.args.input.now _ _ c.in-Ok.ensures c.args.options.now c.config_of-config.result c.config_of-config.ensures c.in_default.is
+    mode_refused c.args.input.now _ _ c.in-Ok.ensures c.args.options.now c.config_of-config.result c.config_of-config.ensures (sym c.order_in.ensures ∙ c.in_default.is)
     c.option_refusal.result
     (subst (λ (zs : List ℤ). IsRefusedOption c.in-Ok.feed.text.now zs c.config_of-config.result c.option_refusal.result) c.deref.ensures.value
     c.option_refusal.ensures)

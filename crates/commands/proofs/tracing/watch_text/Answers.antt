@@ -8,7 +8,7 @@ returns g c =
     let k = c.in_ok-compiled.compiled in
     let w = c.in_ok-watched.watched in
     let e = c.in_ok-watched.ensures in
-    is_watched c.args.mode c.args.text.now k.checked k.object.bytes c.args.inputs.now c.args.config g.G.Gate.may_stop w.report w.moments.items
+    is_watched c.args.order c.args.text.now k.checked k.object.bytes c.args.inputs.now c.args.config g.G.Gate.may_stop w.report w.moments.items
     c.in_ok-compiled.ensures e.shows e.turns e.moments
 
 pub returns-in_err-watched : goal.returns-in_err-watched
