@@ -32,6 +32,11 @@ many-inputs: the command line has more than 16 inputs, and no object takes more 
 elements: --elements is 1 to 16, and not $a
 frames: --frames is 1 to 1024, and not $a
 mode: --mode is `one`, `rounds` or `free`
+take: --take is `oldest` or `depth`
+no-depth: `run`, `exec` and `trace` take tokens by depth in the mode one, and nothing else does: --take is `oldest` here
+enough-elements: $a frames of all elements together suffice in every order, and $b element$B cannot have so many: an element has 1024 at most, so --elements $c has enough
+enough-nowhere: $a frames of all elements together suffice in every order, and no machine has more than 16384: fewer may do, so try --frames 1024
+enough-unknown: within --steps $a activities the meaning does not come to rest with no reader waiting, so no number of frames is known to suffice: `ets mean` says where it is then
 run-memory: memory was refused: fewer --elements and --frames take less of it
 event-memory: memory was refused: fewer --elements, --frames and --steps take less of it
 steps-end: an element made its $a step$A, and had more to do: raise --steps ($b at most), if the run ends at all
@@ -40,14 +45,16 @@ steps-or-picks-end: an element made its $a step$A, or the $b picks of an order r
 wave-end: --steps $a does not allow all activities of the next wave: raise it ($b at most), if the graph ends at all
 activities-end: --steps $a allows no further activity, and there is one: raise it, if the graph ends at all
 no-frame: $a request$A for a frame at the end, where no frame was free: raise --frames (1024 at most), or --elements (16 at most)
-no-frame-of-enough: $a request$A for a frame at the end, where no frame was free: raise --frames (1024 at most), or --elements (16 at most); $c frames of all elements together suffice in every order, if --steps does
-no-frame-of-enough-bounds: $a request$A for a frame at the end, where no frame was free: raise --frames (1024 at most), or --elements (16 at most); $c frames of all elements together suffice in every order where each loop's bound is at least $d, if --steps does
+no-frame-of-enough: $a request$A for a frame at the end, where no frame was free: raise --frames (1024 at most), or --elements (16 at most); $e frames of all elements together suffice in every order, if --steps does
+no-frame-of-enough-bounds: $a request$A for a frame at the end, where no frame was free: raise --frames (1024 at most), or --elements (16 at most); $e frames of all elements together suffice in every order where each loop's bound is at least $f, if --steps does
 no-frame-in-row: $a request$A for a frame at its end, where none of its $d frame$D was free: raise --frames (1024 at most), or leave $c out of --elements
 failed-row: the run on $c element$C does not end at rest, so its rounds are not those of all the work
 readers: $a reader$A at the end of cells that no store filled: `ets trace` shows them, each with a `read` that is `deferred` and no `write`
 readers-of-cells: $a reader$A at the end of cells that no store filled: $x
 readers-of-object: $a reader$A at the end of cells that no store filled: the report has a line `cell` for each cell that one did
 no-credit: $b request$B for a loop's credit at the end, where no iteration could end: raise the loop's bound k, the number in its line `loop F k ..`
+no-credit-of-enough: $b request$B for a loop's credit at the end, and none for a frame: there are as many as suffice in every order, $e; the bound of a loop, k in its line `loop F k ..`, is too small for the order in which cells are stored and read, and bounds of at least $f, the iterations of all loops together, suffice in every order, if --steps does
+no-credit-of-enough-own: $b request$B for a loop's credit at the end, and none for a frame: there are as many as suffice in every order, $e; the bound of a loop, k in its line `loop F k ..`, is too small for the order in which cells are stored and read, and a bound of at least the loop's own iterations suffices in every order, if --steps does
 no-credit-of-code: $b request$B for a loop's credit at the end, where no iteration could end: raise the bound k of `open`, `take`, `give` and `drain`, unless the code gives no credit back
 no-frame-no-credit: $a request$A for a frame and $b request$B for a loop's credit at the end: raise --frames (1024 at most), or --elements (16 at most), and the bound k of the loops
 clash: a second store came to cell $a of array $b: a cell takes one store in a run
@@ -152,11 +159,11 @@ other/object/listing: standard input is an object: `ets dis` makes a listing of 
 other/listing/graph: standard input is a listing, and `ets $1` reads a graph; `ets asm` makes an object of a listing
 other/listing/program: standard input is a listing, and `ets $1` reads a program; `ets asm` makes an object of a listing
 other/listing/object: standard input is a listing: `ets asm` makes an object of it
-options/run: the options of `ets $1` are --elements N (1 to 16), --frames N (1 to 1024), --steps N (at most 4294967296), --mode one, rounds or free, and --turn N (1 to 65536), each at most once
-options/exec: the options of `ets $1` are --elements N (1 to 16), --frames N (1 to 1024), --steps N (at most 4294967296), --mode one, rounds or free, and --turn N (1 to 65536), each at most once; all other words are inputs
-options/trace: the options of `ets $1` are --last N, --format text, chrome or html, --elements N (1 to 16), --frames N (1 to 1024), --steps N (at most 4294967296), --mode one, rounds or free, and --turn N (1 to 65536), each at most once
-options/profile: the options of `ets $1` are --elements N,N,.. (each 1 to 16), --frames N (1 to 1024), --steps N (at most 4294967296) and --svg, each at most once
-options/orders: the options of `ets $1` are --count N, --seed N, --elements N (1 to 16), --frames N (1 to 1024) and --steps N (at most 4294967296), each at most once
+options/run: the options of `ets $1` are --elements N (1 to 16), --frames N (1 to 1024) or enough, --steps N (at most 4294967296), --mode one, rounds or free, --turn N (1 to 65536), and --take oldest or depth, each at most once
+options/exec: the options of `ets $1` are --elements N (1 to 16), --frames N (1 to 1024), --steps N (at most 4294967296), --mode one, rounds or free, --turn N (1 to 65536), and --take oldest or depth, each at most once; all other words are inputs
+options/trace: the options of `ets $1` are --last N, --format text, chrome or html, --elements N (1 to 16), --frames N (1 to 1024), --steps N (at most 4294967296), --mode one, rounds or free, --turn N (1 to 65536), and --take oldest or depth, each at most once
+options/profile: the options of `ets $1` are --elements N,N,.. (each 1 to 16), --frames N (1 to 1024), --steps N (at most 4294967296), --take oldest or depth, and --svg, each at most once
+options/orders: the options of `ets $1` are --count N, --seed N, --elements N (1 to 16), --frames N (1 to 1024), --steps N (at most 4294967296), and --take oldest or depth, each at most once
 options/mean: the options of `ets $1` are --steps N, at most once
 options/dis: the options of `ets $1` are --literals, at most once
 options/dot: the options of `ets $1` are --code, at most once

@@ -29,12 +29,13 @@ use lines::{line_at, split_graph, text_of, word_at};
 use listings::listing_fault;
 use message::{Found, Special, nowhere};
 use objects::object_fault;
+use oracle::CallCounts;
 use outcomes::{Ending, Outcome, Refusal};
 use programs::{kind_cause, program_fault};
 use readers::{ReaderCells, invocations_of, reader_cells};
 use runs::{
-    Case, end_fault, given_fault, input_fault, is_of_object, memory_cause, page_fault,
-    profile_fault, start_fault,
+    Case, end_fault, given_fault, input_fault, is_of_object, memory_cause, not_at_rest, page_fault,
+    profile_fault, start_fault, too_many_frames,
 };
 use semantics::report::End;
 use std::alloc::{AllocError, Allocator};
@@ -82,7 +83,11 @@ fn of_input<'a>(case: &Case<'_, 'a>, command: &'a str, refusal: Refusal) -> Opti
         Refusal::Asm(refusal) => Some(listing_fault(refusal, input)),
         Refusal::Program(refusal) => Some(program_fault(input, refusal)),
         Refusal::InputLine(number) => Some(input_fault(input, number)),
-        Refusal::Input | Refusal::Start(_) | Refusal::Memory => None,
+        Refusal::Input
+        | Refusal::Start(_)
+        | Refusal::TooManyFrames(_)
+        | Refusal::NotAtRest
+        | Refusal::Memory => None,
     }
 }
 
@@ -100,6 +105,8 @@ fn placed<'a, S: AsStr>(
     match refusal {
         Refusal::Input | Refusal::Memory => None,
         Refusal::Start(fault) => start_fault(case, fault),
+        Refusal::TooManyFrames(frames) => Some(too_many_frames(case.request, frames)),
+        Refusal::NotAtRest => Some(not_at_rest(case.request)),
         Refusal::InputLine(number) if is_of_object(case.request) => given_fault(rest, number),
         _ => of_input(case, command, refusal),
     }
@@ -165,29 +172,50 @@ fn named_cells<A: Allocator + Clone>(
     Ok((cells.count > 0).then_some(cells))
 }
 
-/// The frames that suffice where a run of a graph wants frames, with a cause that says so. `None` where that is not known, where no machine has so many, or
-/// where no loop's bound can be as many as the iterations.
+/// What is said of a run that wants frames, where the meaning calls for so much. `None` where no machine has so many frames, or where no loop's bound can be
+/// as many as the iterations.
+fn frames_cause(counts: CallCounts) -> Option<Text> {
+    match counts.iterations {
+        _ if counts.invocations >= FRAMES => None,
+        0 => Some("no-frame-of-enough"),
+        1..=BOUNDS => Some("no-frame-of-enough-bounds"),
+        _ => None,
+    }
+}
+
+/// What is said of a run that wants credits alone on a machine with so many frames, where the meaning calls for so much. `None` where these frames may be too
+/// few.
+fn credits_cause(counts: CallCounts, frames: u64) -> Option<Text> {
+    match counts.iterations {
+        _ if counts.invocations as u64 >= frames => None,
+        0..=BOUNDS => Some("no-credit-of-enough"),
+        _ => Some("no-credit-of-enough-own"),
+    }
+}
+
+/// The frames that suffice where a run of a graph wants frames, or credits though its frames suffice, with a cause that says so. `None` where that is not
+/// known.
 fn enough_frames<'a, A: Allocator + Clone>(
     alloc: A,
     found: &Found<'a>,
     input: Option<&[u8]>,
 ) -> Result<Option<Found<'a>>, AllocError> {
-    if found.cause != "no-frame" {
+    if found.cause != "no-frame" && found.cause != "no-credit" {
         return Ok(None);
     }
     let Some(counts) = invocations_of(alloc, input.unwrap_or(b""))? else {
         return Ok(None);
     };
-    if counts.invocations >= FRAMES || counts.iterations > BOUNDS {
+    let cause = match found.cause {
+        "no-frame" => frames_cause(counts),
+        _ => credits_cause(counts, found.numbers[3]),
+    };
+    let Some(cause) = cause else {
         return Ok(None);
-    }
-    let cause = match counts.iterations {
-        0 => "no-frame-of-enough",
-        _ => "no-frame-of-enough-bounds",
     };
     let mut numbers = found.numbers;
-    numbers[2] = counts.invocations as u64 + 1;
-    numbers[3] = counts.iterations as u64;
+    numbers[4] = (counts.invocations as u64).saturating_add(1);
+    numbers[5] = counts.iterations as u64;
     Ok(Some(Found {
         cause,
         numbers,

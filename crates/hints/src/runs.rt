@@ -102,6 +102,7 @@ fn numbered<'a>(cause: Text, number: u64) -> Found<'a> {
 fn options_of(request: &Request) -> Option<&RunOptions> {
     match request {
         Request::Run(options)
+        | Request::RunEnough(options)
         | Request::Exec { options, .. }
         | Request::Trace { options, .. }
         | Request::Profile { options, .. }
@@ -111,16 +112,25 @@ fn options_of(request: &Request) -> Option<&RunOptions> {
 }
 
 /// What is wrong with numbers of elements, and the first that is wrong; 63 stands for all above 62.
-fn sizes_cause(sizes: Sizes) -> (Text, u64) {
+fn sizes_cause(sizes: Sizes) -> Option<(Text, u64)> {
     for elements in 0..63u64 {
         if sizes.has(elements) && (elements == 0 || 16 < elements) {
-            return ("elements", elements);
+            return Some(("elements", elements));
         }
     }
-    if sizes.has(63) {
-        return ("--elements is 1 to 16, and not above 62", 63);
-    }
-    ("mode", 0)
+    sizes
+        .has(63)
+        .then_some(("--elements is 1 to 16, and not above 62", 63))
+}
+
+/// What is wrong with the words of the mode and of the order.
+fn way_cause(options: &RunOptions) -> (Text, u64) {
+    let cause = match (options.mode, options.take) {
+        (None, _) => "mode",
+        (Some(_), None) => "take",
+        (Some(_), Some(_)) => "no-depth",
+    };
+    (cause, 0)
 }
 
 /// Whether a number of steps of a turn is given that is outside its limits.
@@ -140,8 +150,8 @@ fn option_fault<'a>(request: &Request) -> Option<Found<'a>> {
             options.turn.unwrap_or(0),
         ),
         Request::Orders { count: 0, .. } => ("--count is at least 1, and not 0", 0),
-        Request::Profile { sizes, .. } => sizes_cause(*sizes),
-        _ => ("mode", 0),
+        Request::Profile { sizes, .. } => sizes_cause(*sizes).unwrap_or(way_cause(options)),
+        _ => way_cause(options),
     };
     Some(numbered(cause, value))
 }
@@ -161,10 +171,31 @@ pub fn start_fault<'a>(case: &Case<'_, 'a>, fault: StartFault) -> Option<Found<'
     inputs_fault(input)
 }
 
+/// The most frames of an element, and of all elements.
+const FRAMES: [u64; 2] = [1_024, 16_384];
+
+/// The cause for a run whose elements cannot have this many frames together, which are enough.
+pub fn too_many_frames<'a>(request: &Request, frames: u128) -> Found<'a> {
+    let frames = u64::try_from(frames).unwrap_or(u64::MAX);
+    let elements = options_of(request).map_or(0, |options| options.elements);
+    let cause = match frames {
+        _ if frames > FRAMES[1] => "enough-nowhere",
+        _ => "enough-elements",
+    };
+    let numbers = [frames, elements, frames.div_ceil(FRAMES[0]), 0, 0, 0];
+    Found::of(None, cause, [""; 2], [b""; 3], numbers)
+}
+
+/// The cause for a run whose frames are not known, since the meaning does not come to rest.
+pub fn not_at_rest<'a>(request: &Request) -> Found<'a> {
+    let steps = options_of(request).map_or(0, |options| options.steps);
+    numbered("enough-unknown", steps)
+}
+
 /// What is said where memory is refused.
 pub fn memory_cause(request: &Request) -> Text {
     match request {
-        Request::Run(_) | Request::Exec { .. } => "run-memory",
+        Request::Run(_) | Request::RunEnough(_) | Request::Exec { .. } => "run-memory",
         Request::Trace { .. } | Request::Orders { .. } | Request::Profile { svg: false, .. } =>
             "event-memory",
         _ => "memory was refused: this input wants more than there is",
@@ -183,6 +214,7 @@ fn run_steps_cause(request: &Request) -> Counted {
             (cause, options.steps, PICKS)
         }
         Request::Run(options)
+        | Request::RunEnough(options)
         | Request::Exec { options, .. }
         | Request::Trace { options, .. }
         | Request::Profile { options, .. } => ("steps-end", options.steps, STEPS),
@@ -324,12 +356,22 @@ fn shown<'a>(
     Found::of(place, cause, [""; 2], parts, numbers)
 }
 
-/// What is to be said of how what was run ended, and the rule that excludes a token.
+/// How many frames all elements of a run have together.
+fn frames_of(request: &Request) -> u64 {
+    match (request, options_of(request)) {
+        (Request::RunEnough(_), _) => u64::MAX,
+        (_, Some(options)) => options.elements.saturating_mul(options.frames),
+        (_, None) => 0,
+    }
+}
+
+/// What is to be said of how what was run ended, and the rule that excludes a token. The last number shown is that of all frames.
 pub fn end_fault<'a>(case: &Case<'_, 'a>, ending: Ending) -> Option<Found<'a>>
     ensures { is_some result ≡ ending_wants ending }
 {
     let counted = end_cause(case, ending)?;
-    Some(shown(case, rule_of(ending), counted, [0; 2]))
+    let others = [0, frames_of(case.request)];
+    Some(shown(case, rule_of(ending), counted, others))
 }
 
 /// Why the run of a row of a profile did not end at rest.

@@ -64,10 +64,10 @@ fn reading<'a, S: AsStr>(command: &'a str, words: &'a [S]) -> &'a str {
 
 /// Whether this request is of a command that runs the graph that it reads.
 pub fn runs_graph(request: &Request) -> bool {
-    use Request::{Mean, Orders, Profile, Run, Trace};
+    use Request::{Mean, Orders, Profile, Run, RunEnough, Trace};
     matches!(
         request,
-        Run(_) | Mean { .. } | Trace { .. } | Profile { .. } | Orders { .. }
+        Run(_) | RunEnough(_) | Mean { .. } | Trace { .. } | Profile { .. } | Orders { .. }
     )
 }
 
