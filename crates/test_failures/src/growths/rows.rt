@@ -51,7 +51,7 @@ impl Example {
 }
 
 /// Worked examples. Their texts and statuses were known before.
-pub const EXAMPLES: [Example; 24] = [
+pub const EXAMPLES: [Example; 25] = [
     Example {
         name: "add",
         words: &["ets", "run"],
@@ -114,6 +114,15 @@ pub const EXAMPLES: [Example; 24] = [
         inputs: b"20\n",
         wanted: b"output 0 -\ndeferred 0\nwaiting 1 0\nframes 20\nend Starved\n",
         status: 2,
+    },
+    Example {
+        name: "factorial, with enough frames",
+        words: &["ets", "run", "--frames", "enough"],
+        graph: FACTORIAL,
+        change: None,
+        inputs: b"20\n",
+        wanted: b"output 0 2432902008176640000\ndeferred 0\nwaiting 0 0\nframes 0\nend Rest\n",
+        status: 0,
     },
     Example {
         name: "sum",
