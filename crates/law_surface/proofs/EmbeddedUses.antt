@@ -50,7 +50,7 @@ kept f x xs h = rw h refl
 dropped : {X : Type 0} (f : X → Bool) (x : X) (xs : List X) → f x ≡ false → filter f (x ∷ xs) ≡ filter f xs
 dropped f x xs h = rw h refl
 
-shorter : (f : Name → Bool) (xs : List Name) → length (filter f xs) ≤ length xs
+pub shorter : (f : Name → Bool) (xs : List Name) → length (filter f xs) ≤ length xs
 shorter f [] = omega arith
 shorter f (x ∷ xs) = go (f x) refl (shorter f xs)
   where

@@ -13,17 +13,10 @@ use Rattle.source.specs.Tokens.{begins, has_double}
 use Rattle.source.specs.Outside.{is_in}
 use Rattle.surface.specs.Instances.{Wanted, hidden_prefix, joined, is_free, numbered, name_for, named_instances}
 use Rattle.law_surface.specs.InstancesAreNew.{NotHidden, AreNew, InstancesAreNew}
-use Rattle.law_surface.proofs.PrefixIsFree.{AllLow, decimal_low, prefix_is_free}
+use Rattle.law_surface.proofs.HiddenNames.{cancel, begins_itself, digits_low, other_is_shown}
+use Rattle.law_surface.proofs.PrefixIsFree.{AllLow, prefix_is_free}
 
 -- TEXTS that begin alike
-cancel : (p xs ys : List ℕ) → p ++ xs ≡ p ++ ys → xs ≡ ys
-cancel [] xs ys e = e
-cancel (c ∷ p) xs ys e = let rest : p ++ xs ≡ p ++ ys = cc in cancel p xs ys rest
-
-begins_itself : (p r : List ℕ) → begins p (p ++ r) ≡ true
-begins_itself [] r = refl
-begins_itself (c ∷ p) r = rw (equal_itself c) (begins_itself p r)
-
 letter : (p d : List ℕ) → (p ++ 102 ∷ []) ++ d ≡ p ++ 102 ∷ d
 letter [] d = refl
 letter (c ∷ p) d = ap (λ (xs : List ℕ). c ∷ xs) (letter p d)
@@ -46,12 +39,8 @@ no_letter [] es h e = cc
 no_letter (d ∷ ds) es h e = let same : 102 ≡ d = cc in omega (arith, same, h.0)
 
 number_not_hidden : (prefix : Name) (n : ℕ) → NotHidden prefix (numbered prefix n)
-number_not_hidden prefix n k h e =
-    no_letter (decimal (k + 1)) (decimal n) (decimal_low (k + 1) h) (cancel prefix (102 ∷ decimal n) (decimal (k + 1)) (sym (numbered_is prefix n) ∙ e))
-
-other_not_hidden : (prefix x : Name) → begins prefix x ≡ false → NotHidden prefix x
-other_not_hidden prefix x h k g e =
-    let so : begins prefix x ≡ true = ap (λ (y : Name). begins prefix y) e ∙ begins_itself prefix (decimal (k + 1)) in cc
+number_not_hidden prefix n k e =
+    no_letter (decimal (k + 1)) (decimal n) (digits_low (k + 1)) (cancel prefix (102 ∷ decimal n) (decimal (k + 1)) (sym (numbered_is prefix n) ∙ e))
 
 -- NAMES SO FAR: those that do not begin as the hidden ones, and the numbered ones before
 abbrev Old : Name → ℕ → Name → Type 0
@@ -114,7 +103,7 @@ name_is_new prefix taken n w h g = go (is_free prefix taken (joined w.function w
         front) in
         record {
           new = not_true (is_in x taken) (second_of_and (nat_le (length x) 24 && not (has_double x) && not (begins prefix x)) (not (is_in x taken)) e);
-          shown = other_not_hidden prefix x other;
+          shown = other_is_shown prefix x other;
           old = inl other;
         }
     go false e = record {

@@ -7,7 +7,7 @@ use Rattle.surface.specs.Desugar.{Instance}
 use Rattle.surface.specs.Instances.{Wanted, hidden_prefix, named_instances}
 
 abbrev pub NotHidden : Name → Name → Type 0
-NotHidden prefix x = (n : ℕ) → n + 1 < 2 ^ 64 → x ≡ hidden prefix n → ⊥
+NotHidden prefix x = (n : ℕ) → x ≡ hidden prefix n → ⊥
 
 abbrev pub AreNew : Name → List Name → List Instance → Type 0
 AreNew prefix taken [] = ⊤
