@@ -3,10 +3,10 @@
 # The options of a command that take a value, and then those that take none.
 _ets_options() {
     case $1 in
-        run | exec) echo --elements --frames --steps --mode --turn ;;
-        trace) echo --elements --frames --steps --mode --turn --last --format ;;
-        profile) echo --elements --frames --steps --svg ;;
-        orders) echo --elements --frames --steps --count --seed ;;
+        run | exec) echo --elements --frames --steps --mode --turn --take ;;
+        trace) echo --elements --frames --steps --mode --turn --take --last --format ;;
+        profile) echo --elements --frames --steps --take --svg ;;
+        orders) echo --elements --frames --steps --take --count --seed ;;
         mean) echo --steps ;;
         dis) echo --literals ;;
         dot) echo --code ;;
@@ -14,18 +14,20 @@ _ets_options() {
     esac
 }
 
-# The words that may be the value of an option.
+# The words that may be the value of an option of a command.
 _ets_values() {
-    case $1 in
-        --mode) echo one rounds free ;;
-        --format) echo text chrome html ;;
+    case "$1 $2" in
+        "run --frames") echo enough ;;
+        *" --mode") echo one rounds free ;;
+        *" --take") echo oldest depth ;;
+        *" --format") echo text chrome html ;;
     esac
 }
 
 # Whether the option takes a value.
 _ets_wants_value() {
     case $1 in
-        --elements | --frames | --steps | --mode | --turn | --last | --format | --count | --seed) return 0 ;;
+        --elements | --frames | --steps | --mode | --turn | --take | --last | --format | --count | --seed) return 0 ;;
     esac
     return 1
 }
@@ -62,7 +64,7 @@ _ets() {
     [[ $prev == = ]] && prev=${COMP_WORDS[COMP_CWORD - 2]}
     [[ $cur == = ]] && cur=
     if _ets_wants_value "$prev"; then
-        mapfile -t COMPREPLY < <(compgen -W "$(_ets_values "$prev")" -- "$cur")
+        mapfile -t COMPREPLY < <(compgen -W "$(_ets_values "$command" "$prev")" -- "$cur")
         return
     fi
 
