@@ -23,13 +23,13 @@ module _ (come : ProgramsComeToRest) (text : List ℕ) (p : Program) (g : Graph)
   reports : (r : Report) → IsProgramRun text g o r → ReportsProgramRun text p g o r
   reports r run = record {
     run = run;
-    shows = quiet_shows text p g lowers run.mode run.inputs (config_of o) false r run.truth;
+    shows = quiet_shows text p g lowers run.order run.inputs (config_of o) false r run.truth;
     completes = λ d t needs large granted.
-        quiet_completes run.mode (text_of g) g run.inputs (config_of o) false r run.truth d t needs large
-        record { memory = granted; gate = never_stopped run.mode (text_of g) g run.inputs (config_of o) r run.truth; list = λ e. absurd (cc) };
+        quiet_completes run.order (text_of g) g run.inputs (config_of o) false r run.truth d t needs large
+        record { memory = granted; gate = never_stopped run.order (text_of g) g run.inputs (config_of o) r run.truth; list = λ e. absurd (cc) };
     arrives = λ k space granted.
-        quiet_arrives come text p g lowers run.mode run.inputs (config_of o) false r run.truth k space
-        record { memory = granted; gate = never_stopped run.mode (text_of g) g run.inputs (config_of o) r run.truth; list = λ e. absurd (cc) };
+        quiet_arrives come text p g lowers run.order run.inputs (config_of o) false r run.truth k space
+        record { memory = granted; gate = never_stopped run.order (text_of g) g run.inputs (config_of o) r run.truth; list = λ e. absurd (cc) };
   }
 
   prints : (result : Result Outcome Error) (old new : Option (List ℕ)) → PrintsProgramRun result old new text g o → PrintsProgram result old new text p g o
