@@ -34,3 +34,5 @@ mod SurfaceHeads
 mod CoreHeads
 mod InFunctions
 mod DesugaredKeepsRules
+mod PlacedKeeps
+mod SurfaceMeans

@@ -5,3 +5,4 @@ pub mod SameNames
 pub mod DepthIsFound
 pub mod PrefixIsFree
 pub mod InstancesAreNew
+pub mod SurfaceMeans
