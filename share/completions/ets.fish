@@ -54,7 +54,7 @@ complete -c ets -n __ets_begins -s V -l version -d 'print the version'
 
 complete -c ets -n '__ets_takes elements run exec trace orders' -l elements -x -d 'processing elements, 1 to 16'
 complete -c ets -n '__ets_takes elements profile' -l elements -x -d 'numbers of processing elements, each 1 to 16'
-complete -c ets -n '__ets_takes frames run' -l frames -x -d 'frames for each element, 1 to 1024' -a 'enough\t"the least number that suffices in every order"'
+complete -c ets -n '__ets_takes frames run' -l frames -x -d 'frames for each element, 1 to 1024' -a 'enough\t"as many as suffice in every order"'
 complete -c ets -n '__ets_takes frames exec trace profile orders' -l frames -x -d 'frames for each element, 1 to 1024'
 complete -c ets -n '__ets_takes steps run exec trace profile orders' -l steps -x -d 'steps that each element may make'
 complete -c ets -n '__ets_takes steps mean' -l steps -x -d 'activities at most'

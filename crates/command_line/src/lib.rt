@@ -25,7 +25,7 @@ pub enum Request {
     Compile,
     /// Compiles and runs the graph on standard input.
     Run(RunOptions),
-    /// The same, with the least number of frames for each element that suffices in every order. The number in the options says nothing.
+    /// The same, with as many frames for each element as are enough in every order. The number in the options says nothing.
     RunEnough(RunOptions),
     /// Lists the object on standard input.
     Dis {

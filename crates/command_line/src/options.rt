@@ -44,7 +44,7 @@ pub(crate) enum OptionName {
 #[derive(Clone, Copy, Debug, PartialEq, Eq)]
 pub(crate) enum Frames {
     Number(u64),
-    /// The least number that suffices in every order.
+    /// As many as are enough in every order.
     Enough,
 }
 

@@ -135,7 +135,7 @@ fn frames_or_enough<'a>(alloc: Global, enough: bool) -> Arg<'a> {
         alloc,
         "frames",
         "256",
-        "frames for each element, 1 to 1024; enough: the least number that suffices in every order",
+        "frames for each element, 1 to 1024; enough: as many as suffice in every order",
     );
     if enough {
         frames.value_parser(ValueParser::String)

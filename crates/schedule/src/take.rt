@@ -6,6 +6,6 @@ pub enum Take {
     /// Each element takes its oldest token.
     Oldest,
     /// Each takes its oldest token, but element 0 holds back the requests for frames that its queue begins with, and takes one of them
-    /// only where few other tokens are left. A program that calls itself needs about as many frames as its calls are deep.
+    /// only where few other tokens are left. Many programs that call themselves then need about as many frames as their calls are deep.
     Depth,
 }
