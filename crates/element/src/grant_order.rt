@@ -3,15 +3,16 @@
 
 ghost use Rattle.std.specs.Prelude.{◌<◌, ◌≤◌, length};
 
-use crate::instructions::Instructions;
+use crate::instructions::{Instruction, Instructions, dest_in};
+use arrayvec::ArrayVec;
 use packed::token::PackedToken;
 use semantics::program::Op;
 use std::alloc::{AllocError, Allocator};
-use tags::token::{Cont, FrameId, To, Token, Word};
+use tags::token::{Cont, FrameId, To, Word};
 use token_queue::queue::TokenQueue;
 
-/// How many copies are followed, at most, to see what a frame is for.
-const COPIES: usize = 64;
+/// How many instructions are looked at, at most, to see what a frame is for.
+const LOOKS: usize = 64;
 
 /// When a frame was handed out: how many calls had been granted, this one with them, and which turn of a loop of that call it is.
 #[derive(Clone, Copy, Debug, PartialEq, Eq)]
@@ -50,24 +51,75 @@ impl Rank {
     }
 }
 
-/// When each frame was handed out, as far as it is known.
+/// A request that is held back, and how many were before it.
+#[derive(Clone, Copy, Debug)]
+struct Held {
+    rank: Rank,
+    number: u64,
+}
+
+/// Whether the frame is one for a call that goes to this instruction.
+#[derive(Clone, Copy, Debug)]
+struct Use {
+    ip: u32,
+    is_call: bool,
+}
+
+impl Use {
+    /// What is known of no instruction.
+    const UNKNOWN: Use = Use {
+        ip: u32::MAX,
+        is_call: false,
+    };
+}
+
+/// When each frame was handed out, as far as it is known, and the requests that are held back.
 #[derive(Drop)]
 pub struct GrantOrder<A: Allocator> {
     ages: Vec<Age, A>,
     calls: u64,
+    /// The requests in the order in which they are granted, the first one last.
+    held: Vec<Held, A>,
+    /// How many have been held back since there was none.
+    number: u64,
+    /// What is known of instructions, each in the place of its number modulo that of the places.
+    uses: [Use; LOOKS],
 }
 
-// Whether an answer that goes to this instruction names the frame of a call: copies lead it to a link.
-fn is_call<C: Instructions>(code: &C, ip: u32) -> bool {
-    let mut ip = ip;
-    for _ in 0..COPIES {
+// The number of the instruction that a half word of a destination leads to, if it leads to one.
+fn next_of(ip: u32, half: u32) -> Option<u32> {
+    match dest_in(half) {
+        Some(dest) => ip.checked_add(dest.ahead),
+        None => None,
+    }
+}
+
+// Puts the instructions behind a copy last, as many as there is room for.
+fn follow(ips: &mut ArrayVec<u32, LOOKS>, ip: u32, copy: &Instruction) {
+    for half in [copy.first(), copy.second()] {
+        if let Some(next) = next_of(ip, half) {
+            if ips.try_push(next).is_err() {
+                return;
+            }
+        }
+    }
+}
+
+// Whether an answer that goes to this instruction names the frame of a call: copies lead it to a link, among others.
+fn leads_to_link<C: Instructions>(code: &C, ip: u32) -> bool {
+    let mut ips = ArrayVec::from([ip; LOOKS]);
+    ips.truncate(1);
+    for at in 0..LOOKS {
+        let Some(ip) = ips.get(at).copied() else {
+            return false;
+        };
         let Some(instr) = code.instr(ip) else {
             return false;
         };
         match instr.op {
             Op::Link { .. } => return true,
-            Op::Copy => ip = ip.wrapping_add(instr.first() % 32_768),
-            _ => return false,
+            Op::Copy => follow(&mut ips, ip, &instr),
+            _ => {}
         }
     }
     false
@@ -75,11 +127,17 @@ fn is_call<C: Instructions>(code: &C, ip: u32) -> bool {
 
 impl<A: Allocator> GrantOrder<A> {
     /// An order in which no frame is known. It takes no memory.
-    pub fn new(alloc: A) -> GrantOrder<A> {
-        GrantOrder {
-            ages: Vec::new(alloc),
+    pub fn new(alloc: &A) -> Result<GrantOrder<A>, AllocError>
+    where
+        A: Clone,
+    {
+        Ok(GrantOrder {
+            ages: Vec::new(alloc.clone()?),
             calls: 0,
-        }
+            held: Vec::new(alloc.clone()?),
+            number: 0,
+            uses: [Use::UNKNOWN; LOOKS],
+        })
     }
 
     /// Makes room for so many frames. After an error nothing is changed.
@@ -121,36 +179,94 @@ impl<A: Allocator> GrantOrder<A> {
         best
     }
 
-    /// The place of the request that is granted first among these.
+    /// Makes room for so many requests that are held back. After an error nothing is changed.
+    pub fn make_room_held(&mut self, requests: usize) -> Result<(), AllocError> {
+        self.held.clear();
+        self.number = 0;
+        self.held.reserve(requests)
+    }
+
+    /// Notes that a request is held back, behind those that are.
+    pub fn hold(&mut self, request: &PackedToken) {
+        let held = Held {
+            rank: self.rank(request),
+            number: self.number,
+        };
+        self.number = self.number.wrapping_add(1);
+        let mut at = self.held.len();
+        'places: while let Some(before) = at.checked_sub(1) {
+            if held.rank.is_before(&self.held[before].rank) {
+                break;
+            }
+            at = before;
+        }
+        if self.held.len() < self.held.capacity() {
+            let _ = self.held.insert(at, held);
+        }
+    }
+
+    /// Notes that the request that is granted first was granted.
+    pub fn grant(&mut self) {
+        self.held.pop();
+    }
+
+    // How many of the requests that are held back came before that one.
+    fn before(&self, number: u64) -> usize {
+        let mut count: usize = 0;
+        for held in &self.held {
+            if held.number < number {
+                count = count.wrapping_add(1);
+            }
+        }
+        count
+    }
+
+    /// The place of the request that is granted first among these, which are held back.
+    #[inline(always)]
     pub fn best(&self, requests: &[PackedToken]) -> usize
         requires { 0 < length requests.now }
         ensures { result < length requests.now }
     {
-        let mut best = 0;
-        let mut rank = self.rank(&requests[0]);
-        for at in 1..requests.len() {
-            let other = self.rank(&requests[at]);
-            if other.is_before(&rank) {
-                best = at;
-                rank = other;
+        if let Some(first) = self.held.last() {
+            let at = self.before(first.number);
+            if at < requests.len() {
+                return at;
             }
         }
-        best
+        requests.len() - 1
+    }
+
+    // Whether the frame that is given to this instruction is one for a call.
+    #[inline(always)]
+    fn is_call<C: Instructions>(&mut self, code: &C, ip: u32) -> bool {
+        let place = ip as usize % LOOKS;
+        let known = self.uses[place];
+        if known.ip == ip {
+            return known.is_call;
+        }
+        let is_call = leads_to_link(code, ip);
+        self.uses[place] = Use { ip, is_call };
+        is_call
     }
 
     /// Notes the frame that a request got: the token `answer` was made last, and answers it if it is one that was granted.
-    pub fn note<C: Instructions>(&mut self, code: &C, request: &Token, answer: &Token) {
-        let Word::Back(asker) = request.word else {
-            return;
-        };
-        let Cont::Frame { frame, ip, port } = asker else {
-            return;
-        };
-        if request.to != To::Manager || answer.to != (To::Instr { frame, ip, port }) {
+    #[inline(always)]
+    pub fn note<C: Instructions>(&mut self, code: &C, request: &PackedToken, answer: &PackedToken) {
+        if !matches!(request.to(), To::Manager) {
             return;
         }
-        if let Word::Frame(given) = answer.word {
-            self.set_age(frame, is_call(code, ip), given);
+        let Word::Back(Cont::Frame { frame, ip, .. }) = request.word().unpack() else {
+            return;
+        };
+        let To::Instr { frame: to, ip: at, .. } = answer.to() else {
+            return;
+        };
+        let Word::Frame(given) = answer.word().unpack() else {
+            return;
+        };
+        if to == frame && at == ip {
+            let is_call = self.is_call(code, ip);
+            self.set_age(frame, is_call, given);
         }
     }
 

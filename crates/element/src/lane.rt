@@ -268,14 +268,19 @@ impl<'m, C: Instructions, A: Allocator> Lane<'m, C, A> {
     }
 
     /// Notes the frame that the token got which the lane took last, if it asked for one. In `sent` lie the tokens that it made for others.
-    pub fn note_frame(&self, taken: &Token, sent: &[PackedToken], order: &mut GrantOrder<A>) {
+    pub fn note_frame(
+        &self,
+        taken: &PackedToken,
+        sent: &[PackedToken],
+        order: &mut GrantOrder<A>,
+    ) {
         let answer = match sent.last() {
-            Some(token) => token.unpack(),
+            Some(token) => *token,
             None => {
                 let Some(last) = self.contents.queue.len().checked_sub(1) else {
                     return;
                 };
-                self.contents.queue.get(last)
+                self.contents.queue.packed(last)
             }
         };
         order.note(self.code, taken, &answer);
@@ -381,7 +386,7 @@ impl<'m, C: Instructions, A: Allocator> Lane<'m, C, A> {
         let most = allowed.min(room).min(MANY);
         let waiting = self.contents.queue.len();
         let tokens = waiting.saturating_add(2 * most as usize);
-        if aside.reserve(tokens).is_err() {
+        if aside.reserve(tokens).is_err() || order.make_room_held(tokens).is_err() {
             return;
         }
         self.contents

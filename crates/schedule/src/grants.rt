@@ -15,7 +15,7 @@ impl<A: Allocator + Clone> Grants<A> {
     /// No request was granted.
     pub fn new(alloc: &A) -> Result<Grants<A>, AllocError> {
         Ok(Grants {
-            order: GrantOrder::new(alloc.clone()?),
+            order: GrantOrder::new(alloc)?,
             aside: Vec::new(alloc.clone()?),
         })
     }

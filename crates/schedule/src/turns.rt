@@ -21,8 +21,8 @@ use element::grant_order::GrantOrder;
 use element::instructions::Instructions;
 use element::lane::Lane;
 use element::requests::requests_before;
+use packed::token::PackedToken;
 use std::alloc::Allocator;
-use tags::token::Token;
 use token_queue::queue::TokenQueue;
 
 // How many tokens are few, where so many frames are free: none on one element, and on several up to one for each 16 frames.
@@ -108,18 +108,18 @@ impl<'m, C: MainCode, A: Allocator> Elements<'m, C, A> {
     }
 
     // The token of element 0 at this place, if there is one.
-    fn first_token(&self, at: usize) -> Option<Token>
+    fn first_token(&self, at: usize) -> Option<PackedToken>
         requires { IsWell C.program C.width self.now }
     {
         let queue = self.lanes[0].queue();
         if queue.len() <= at {
             return None;
         }
-        Some(queue.get(at))
+        Some(queue.packed(at))
     }
 
     // Notes the frame that the token got which element 0 took last, if it asked for one.
-    fn note_frame(&self, taken: Option<Token>, order: &mut GrantOrder<A>)
+    fn note_frame(&self, taken: Option<PackedToken>, order: &mut GrantOrder<A>)
         requires { IsWell C.program C.width self.now }
     {
         if let Some(taken) = taken {

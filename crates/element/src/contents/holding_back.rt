@@ -32,7 +32,7 @@ impl<'m, A: Allocator> Contents<'m, A> {
     }
 
     // Puts the oldest token aside.
-    fn hold(&mut self, aside: &mut Vec<PackedToken, A>)
+    fn hold(&mut self, order: &mut GrantOrder<A>, aside: &mut Vec<PackedToken, A>)
         requires some { 0 < length self.old.queue.items }
         requires few { self.old.queue.gone < 2 ^ 63 }
         requires asks { asks_first self.old.queue.items ≡ true }
@@ -47,6 +47,7 @@ impl<'m, A: Allocator> Contents<'m, A> {
         ensures capacity { vec_capacity aside.new ≡ vec_capacity aside.old }
     {
         let token = self.queue.packed(0);
+        order.hold(&token);
         aside.push_reserved(token);
         self.take(0);
     }
@@ -54,7 +55,7 @@ impl<'m, A: Allocator> Contents<'m, A> {
     // Notes the frame that a request got.
     fn note<C: Instructions>(&self, code: &C, request: &PackedToken, order: &mut GrantOrder<A>) {
         if let Some(last) = self.queue.len().checked_sub(1) {
-            order.note(code, &request.unpack(), &self.queue.get(last));
+            order.note(code, request, &self.queue.packed(last));
         }
     }
 
@@ -118,6 +119,7 @@ impl<'m, A: Allocator> Contents<'m, A> {
             return false;
         }
         aside.remove(at);
+        order.grant();
         self.note(code, &request, order);
         true
     }
@@ -165,7 +167,7 @@ impl<'m, A: Allocator> Contents<'m, A> {
         if !self.asks() {
             return false;
         }
-        self.hold(aside);
+        self.hold(order, aside);
         true
     }
 
