@@ -258,7 +258,12 @@ impl<A: Allocator> GrantOrder<A> {
         let Word::Back(Cont::Frame { frame, ip, .. }) = request.word().unpack() else {
             return;
         };
-        let To::Instr { frame: to, ip: at, .. } = answer.to() else {
+        let To::Instr {
+            frame: to,
+            ip: at,
+            ..
+        } = answer.to()
+        else {
             return;
         };
         let Word::Frame(given) = answer.word().unpack() else {

@@ -268,12 +268,7 @@ impl<'m, C: Instructions, A: Allocator> Lane<'m, C, A> {
     }
 
     /// Notes the frame that the token got which the lane took last, if it asked for one. In `sent` lie the tokens that it made for others.
-    pub fn note_frame(
-        &self,
-        taken: &PackedToken,
-        sent: &[PackedToken],
-        order: &mut GrantOrder<A>,
-    ) {
+    pub fn note_frame(&self, taken: &PackedToken, sent: &[PackedToken], order: &mut GrantOrder<A>) {
         let answer = match sent.last() {
             Some(token) => *token,
             None => {
