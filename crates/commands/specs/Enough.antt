@@ -1,4 +1,4 @@
--- What `run` prints with enough frames: what it prints with the least number of them for each element that is enough in every order.
+-- What `run` prints with enough frames: what it prints with as many of them for each element as are enough in every order.
 use Rattle.std.specs.Prelude.{◌≡◌, ℕ, ℤ, ◌⊎◌, List, Option, Some, Result}
 use Rattle.semantics.specs.Graph.{Graph}
 use Rattle.driver.specs.declared.order.Order.{Order}

@@ -32,7 +32,7 @@ fn with_frames(options: &RunOptions, frames: u64) -> RunOptions
     }
 }
 
-/// The least number of frames for each element that is enough for the graph of the input, on the integers after it, in every order. A run with one frame is
+/// As many frames for each element as are enough for the graph of the input, on the integers after it, in every order. A run with one frame is
 /// refused first for what is wrong with it, in the order of the work.
 fn enough_for<A: Allocator + Clone>(
     alloc: &A,
@@ -60,7 +60,7 @@ fn enough_for<A: Allocator + Clone>(
     }
 }
 
-/// Runs the graph of the input on the integers after it with as many frames as are enough in every order: the least number for each element. Prints the
+/// Runs the graph of the input on the integers after it with as many frames for each element as are enough in every order. Prints the
 /// report, or why there is none. Gives the outcome.
 pub(crate) fn print_run_with_enough<
     R: Threads + Wait + Sync,

@@ -123,7 +123,7 @@ fn frames_for(called: usize, elements: u64) -> EnoughFrames
     EnoughFrames::Each(frames.div_ceil(elements) as u64)
 }
 
-/// The least number of frames for each of these elements with which no run of the graph on these inputs wants a frame, in whatever order, by a run of the
+/// So many frames for each of these elements that no run of the graph on these inputs wants a frame, in whatever order, by a run of the
 /// meaning of at most `activities` activities.
 ///
 /// Each element has at most 1024 frames. That no run wants one with this number: `completion::frames_are_not_wanted`.

@@ -13,6 +13,7 @@ mod graphs;
 mod line;
 mod lines;
 mod listings;
+mod loops;
 mod message;
 mod objects;
 mod programs;
@@ -27,6 +28,7 @@ use graphs::{code_fault, graph_fault};
 pub use line::{Hint, Line};
 use lines::{line_at, split_graph, text_of, word_at};
 use listings::listing_fault;
+use loops::LoopLines;
 use message::{Found, Special, nowhere};
 use objects::object_fault;
 use oracle::CallCounts;
@@ -193,22 +195,43 @@ fn credits_cause(counts: CallCounts, frames: u64) -> Option<Text> {
     }
 }
 
+/// What is said of a run whose loops want credits alone, with the loops whose bounds are less than these iterations. Where that is one, it is the one whose
+/// bound is too small, and the place.
+fn with_loops<'a>(found: Found<'a>, input: &'a [u8], iterations: u64) -> Found<'a> {
+    let text = split_graph(input).0;
+    let loops = LoopLines::below(text, iterations);
+    let found = found.with([Special::Loops(loops); 2]);
+    let Some(line) = loops.only() else {
+        return found;
+    };
+    let mut numbers = found.numbers;
+    numbers[2] = line;
+    Found {
+        place: Some("line $c is `$s`"),
+        parts: [line_at(text, line); 3],
+        numbers,
+        ..found
+    }
+}
+
 /// The frames that suffice where a run of a graph wants frames, or credits though its frames suffice, with a cause that says so. `None` where that is not
 /// known.
 fn enough_frames<'a, A: Allocator + Clone>(
     alloc: A,
     found: &Found<'a>,
-    input: Option<&[u8]>,
+    input: Option<&'a [u8]>,
 ) -> Result<Option<Found<'a>>, AllocError> {
     if found.cause != "no-frame" && found.cause != "no-credit" {
         return Ok(None);
     }
-    let Some(counts) = invocations_of(alloc, input.unwrap_or(b""))? else {
+    let input = input.unwrap_or(b"");
+    let Some(counts) = invocations_of(alloc, input)? else {
         return Ok(None);
     };
-    let cause = match found.cause {
-        "no-frame" => frames_cause(counts),
-        _ => credits_cause(counts, found.numbers[3]),
+    let is_of_frames = found.cause == "no-frame";
+    let cause = match is_of_frames {
+        true => frames_cause(counts),
+        false => credits_cause(counts, found.numbers[3]),
     };
     let Some(cause) = cause else {
         return Ok(None);
@@ -216,10 +239,14 @@ fn enough_frames<'a, A: Allocator + Clone>(
     let mut numbers = found.numbers;
     numbers[4] = (counts.invocations as u64).saturating_add(1);
     numbers[5] = counts.iterations as u64;
-    Ok(Some(Found {
+    let found = Found {
         cause,
         numbers,
         ..*found
+    };
+    Ok(Some(match is_of_frames {
+        true => found,
+        false => with_loops(found, input, counts.iterations as u64),
     }))
 }
 

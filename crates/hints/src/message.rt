@@ -2,6 +2,7 @@
 
 use crate::catalog::{Text, found};
 use crate::lines::{line_at, text_of, word_at};
+use crate::loops::LoopLines;
 use crate::readers::ReaderCells;
 use graph_check::CheckFaultKind;
 use graph_file::ReadFaultKind;
@@ -23,6 +24,7 @@ pub enum Special {
     Programming(FaultKind),
     /// Cells, whose arrays are in the first lines of `$p`.
     Readers(ReaderCells),
+    Loops(LoopLines),
 }
 
 /// A cause, with two numbers.
@@ -55,6 +57,7 @@ impl Display for Special {
             Special::Checking(kind) => Display::fmt(&kind, f),
             Special::Programming(kind) => Display::fmt(&kind, f),
             Special::Readers(cells) => Display::fmt(&cells.count, f),
+            Special::Loops(loops) => loops.show(f),
         }
     }
 }

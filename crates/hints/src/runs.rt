@@ -10,7 +10,7 @@ use crate::fields::literal_fault;
 use crate::lines::{is_full, is_line_feed, last_line, line_at, split_graph, text_at, word_at};
 use crate::message::{Counted, Found, nowhere};
 use crate::words::{Sought, first_of};
-use command_line::{Inputs, Request, RunOptions, Sizes};
+use command_line::{Inputs, Mode, Request, RunOptions, Sizes, Take};
 use object_view::Object;
 use oracle::MeanEnd;
 use outcomes::{Ending, FailedRow};
@@ -365,13 +365,30 @@ fn frames_of(request: &Request) -> u64 {
     }
 }
 
+/// What is said of the order of tokens to one whose run wants frames, where there is another order that may want fewer.
+fn order_advice(request: &Request) -> &'static str {
+    match request {
+        Request::Run(options)
+        | Request::RunEnough(options)
+        | Request::Exec { options, .. }
+        | Request::Trace { options, .. }
+            if options.mode == Some(Mode::One) && options.take == Some(Take::Oldest) =>
+            ", or try --take depth",
+        _ => "",
+    }
+}
+
 /// What is to be said of how what was run ended, and the rule that excludes a token. The last number shown is that of all frames.
 pub fn end_fault<'a>(case: &Case<'_, 'a>, ending: Ending) -> Option<Found<'a>>
     ensures { is_some result ≡ ending_wants ending }
 {
     let counted = end_cause(case, ending)?;
     let others = [0, frames_of(case.request)];
-    Some(shown(case, rule_of(ending), counted, others))
+    let found = shown(case, rule_of(ending), counted, others);
+    Some(Found {
+        words: [order_advice(case.request); 2],
+        ..found
+    })
 }
 
 /// Why the run of a row of a profile did not end at rest.

@@ -5,7 +5,7 @@
 
 mod known;
 
-use known::KNOWN;
+use known::{KNOWN, Known};
 use std::alloc::Global;
 use std::fs;
 use std::io::Write;
@@ -43,10 +43,9 @@ fn graph_beside(files: &HostRuntime, name: &str) -> anyhow::Result<Option<Vec<u8
     }
 }
 
-/// What the runs of a program report, where there is no graph of its name.
-fn computed(name: &str) -> Option<&'static [u8]> {
-    let known = KNOWN.iter().find(|known| known.name == name)?;
-    Some(known.prints)
+/// What is known of the runs of a program, where there is no graph of its name.
+fn known_of(name: &str) -> Option<&'static Known> {
+    KNOWN.iter().find(|known| known.name == name)
 }
 
 /// What a program is compared with.
@@ -100,9 +99,9 @@ fn agrees<R: Threads + Wait + Sync, W: Write>(
         let fault = fault_beside(rt, alloc, &program, &graph)?;
         return write_out(out, name, Reference::Graph, fault);
     }
-    match computed(name) {
-        Some(prints) => {
-            let fault = fault_of(rt, alloc, &program, prints)?;
+    match known_of(name) {
+        Some(known) => {
+            let fault = fault_of(rt, alloc, &program, known.prints, known.orders)?;
             write_out(out, name, Reference::Known, fault)
         }
         None => {

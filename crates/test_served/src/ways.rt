@@ -1,4 +1,4 @@
-//! The ways in which a graph is run: in each mode, on few and on many elements.
+//! The ways in which a graph is run: in each mode, by depth, too, on few and on many elements.
 
 use crate::answer;
 use std::alloc::{AllocError, Global};
@@ -6,35 +6,68 @@ use std::fmt;
 use std::sync::Wait;
 use std::thread::Threads;
 
-const MODES: [&str; 3] = ["one", "rounds", "free"];
+/// The words of an order of events: a mode, and which of its tokens an element takes.
+type Order = [&'static str; 2];
+
+const BY_DEPTH: Order = ["one", "depth"];
+
+const ORDERS: [Order; 4] = [
+    ["one", "oldest"],
+    BY_DEPTH,
+    ["rounds", "oldest"],
+    ["free", "oldest"],
+];
 
 const ELEMENTS: [&str; 5] = ["1", "2", "4", "7", "16"];
 
-/// A mode, and a number of elements.
+/// The orders of events in which a program is run.
+#[derive(Clone, Copy)]
+pub enum Orders {
+    All,
+    /// By depth alone, since other runs starve. Nothing is said of cells.
+    ByDepth,
+}
+
+impl Orders {
+    fn list(self) -> &'static [Order] {
+        match self {
+            Orders::All => &ORDERS,
+            Orders::ByDepth => &[BY_DEPTH],
+        }
+    }
+
+    /// What a report says of outputs and deferred readers, its end, and what it says of cells, if that is asked for.
+    fn told(self, alloc: Global, report: &[u8]) -> Result<Vec<u8>, AllocError> {
+        match self {
+            Orders::All => told(alloc, report),
+            Orders::ByDepth => kept(alloc, report, &["output ", "deferred ", "end "]),
+        }
+    }
+}
+
+/// An order of events, and a number of elements.
 #[derive(Clone, Copy)]
 pub struct Way {
-    mode: &'static str,
+    order: Order,
     elements: &'static str,
 }
 
 impl fmt::Display for Way {
     fn fmt<W: fmt::Write>(&self, f: &mut fmt::Formatter<W>) -> fmt::Result {
-        write!(f, "--mode {} --elements {}", self.mode, self.elements)
+        let [mode, take] = self.order;
+        write!(
+            f,
+            "--mode {mode} --take {take} --elements {}",
+            self.elements
+        )
     }
 }
 
-/// Whether a line reports a value, a deferred reader or the end. Of the others that a report has, how many frames are out and which
-/// requests wait may depend on the way.
-fn is_reported(line: &[u8]) -> bool {
-    let words = [b"output ".as_slice(), b"cell ", b"deferred ", b"end "];
-    words.iter().any(|word| line.starts_with(*word))
-}
-
-/// What a report says of outputs, cells and deferred readers, and its end.
-pub fn told(alloc: Global, report: &[u8]) -> Result<Vec<u8>, AllocError> {
+/// The lines of a report that begin with one of these words.
+fn kept(alloc: Global, report: &[u8], words: &[&str]) -> Result<Vec<u8>, AllocError> {
     let mut lines = Vec::new(alloc);
     for line in report.split(|byte| *byte == b'\n') {
-        if is_reported(line) {
+        if words.iter().any(|word| line.starts_with(word.as_bytes())) {
             lines.extend_from_slice(line)?;
             lines.push(b'\n')?;
         }
@@ -42,28 +75,45 @@ pub fn told(alloc: Global, report: &[u8]) -> Result<Vec<u8>, AllocError> {
     Ok(lines)
 }
 
-/// What a run of a graph on the inputs after it reports.
-pub fn run_reported<R: Threads + Wait + Sync>(
-    rt: &R,
-    alloc: Global,
-    input: &[u8],
-    way: Way,
-) -> Result<Vec<u8>, AllocError> {
-    let words = ["ets", "run", "--mode", way.mode, "--elements", way.elements];
-    told(alloc, &answer(rt, alloc, &words, input).text)
+/// What a report says of outputs, cells and deferred readers, and its end. Of the other lines, how many frames are out and which requests
+/// wait may depend on the way.
+pub fn told(alloc: Global, report: &[u8]) -> Result<Vec<u8>, AllocError> {
+    kept(alloc, report, &["output ", "cell ", "deferred ", "end "])
 }
 
-/// The first way in which a run of the graph on the inputs after it does not report just this.
+/// The report of a run of a graph on the inputs after it.
+fn report_of<R: Threads + Wait + Sync>(rt: &R, alloc: Global, input: &[u8], way: Way) -> Vec<u8> {
+    let [mode, take] = way.order;
+    let elements = way.elements;
+    let words = [
+        "ets",
+        "run",
+        "--mode",
+        mode,
+        "--take",
+        take,
+        "--elements",
+        elements,
+    ];
+    answer(rt, alloc, &words, input).text
+}
+
+/// The first way in one of these orders in which a run of the graph on the inputs after it does not report just this.
 pub fn first_other<R: Threads + Wait + Sync>(
     rt: &R,
     alloc: Global,
     input: &[u8],
     wanted: &[u8],
+    orders: Orders,
 ) -> Result<Option<Way>, AllocError> {
-    for mode in MODES {
+    for order in orders.list() {
         for elements in ELEMENTS {
-            let way = Way { mode, elements };
-            if run_reported(rt, alloc, input, way)?.as_slice() != wanted {
+            let way = Way {
+                order: *order,
+                elements,
+            };
+            let report = report_of(rt, alloc, input, way);
+            if orders.told(alloc, &report)?.as_slice() != wanted {
                 return Ok(Some(way));
             }
         }
@@ -80,7 +130,8 @@ pub fn fault_beside<R: Threads + Wait + Sync>(
     graph: &[u8],
 ) -> Result<Option<Fault>, AllocError> {
     let run = answer(rt, alloc, &["ets", "run"], graph);
-    fault_of(rt, alloc, program, &told(alloc, &run.text)?)
+    let wanted = told(alloc, &run.text)?;
+    fault_of(rt, alloc, program, &wanted, Orders::All)
 }
 
 /// What is wrong with a program.
@@ -101,19 +152,22 @@ impl fmt::Display for Fault {
     }
 }
 
-/// What is wrong with a program whose runs should report just this, if anything is.
+/// What is wrong with a program whose runs in these orders should report just this, if anything is.
 pub fn fault_of<R: Threads + Wait + Sync>(
     rt: &R,
     alloc: Global,
     program: &[u8],
     wanted: &[u8],
+    orders: Orders,
 ) -> Result<Option<Fault>, AllocError> {
     let lowered = answer(rt, alloc, &["ets", "lower"], program);
     if lowered.status != 0 {
         return Ok(Some(Fault::Refused));
     }
-    Ok(match first_other(rt, alloc, &lowered.text, wanted)? {
-        Some(way) => Some(Fault::Otherwise { way }),
-        None => None,
-    })
+    Ok(
+        match first_other(rt, alloc, &lowered.text, wanted, orders)? {
+            Some(way) => Some(Fault::Otherwise { way }),
+            None => None,
+        },
+    )
 }

@@ -1,17 +1,21 @@
 //! What the programs report that have no graph of their name: outputs, cells, and that nothing waits at the end. All of it was computed without
 //! this project, by other programs and by hand; the two faults have the nodes where they are made, counted in the graph by hand.
 
-/// A program, and what its runs report.
+use test_served::ways::Orders;
+
+/// A program, the orders in which it is run, and what those runs report.
 #[derive(Clone, Copy)]
 pub struct Known {
     pub name: &'static str,
+    pub orders: Orders,
     pub prints: &'static [u8],
 }
 
 /// The programs without a graph.
-pub const KNOWN: [Known; 8] = [
+pub const KNOWN: [Known; 12] = [
     Known {
         name: "fibonacci_loop.df",
+        orders: Orders::All,
         prints: b"output 0 55
 output 1 89
 deferred 0
@@ -20,6 +24,7 @@ end Rest
     },
     Known {
         name: "square_root.df",
+        orders: Orders::All,
         prints: b"output 0 1000
 deferred 0
 end Rest
@@ -27,6 +32,7 @@ end Rest
     },
     Known {
         name: "longest_collatz.df",
+        orders: Orders::All,
         prints: b"output 0 27
 output 1 111
 deferred 0
@@ -35,6 +41,7 @@ end Rest
     },
     Known {
         name: "prefix_sums.df",
+        orders: Orders::All,
         prints: b"output 0 385
 cell S 0 0
 cell S 1 1
@@ -53,6 +60,7 @@ end Rest
     },
     Known {
         name: "greatest.df",
+        orders: Orders::All,
         prints: b"output 0 952
 cell A 0 590
 cell A 1 575
@@ -76,6 +84,7 @@ end Rest
     },
     Known {
         name: "matrix_product.df",
+        orders: Orders::All,
         prints: b"output 0 30
 output 1 90
 cell A 0 1
@@ -111,6 +120,7 @@ end Rest
     },
     Known {
         name: "faults.df",
+        orders: Orders::All,
         prints: b"output 0 fault range at 0 4
 output 1 2
 output 2 fault zero at 0 2
@@ -122,6 +132,7 @@ end Rest
     },
     Known {
         name: "precedence.df",
+        orders: Orders::All,
         prints: b"output 0 24
 output 1 8
 output 2 2
@@ -136,6 +147,40 @@ output 10 1
 output 11 -10
 output 12 2
 output 13 -1
+deferred 0
+end Rest
+",
+    },
+    Known {
+        name: "hanoi.df",
+        orders: Orders::ByDepth,
+        prints: b"output 0 4095
+deferred 0
+end Rest
+",
+    },
+    Known {
+        name: "mergesort.df",
+        orders: Orders::ByDepth,
+        prints: b"output 0 0
+output 1 517
+output 2 1005
+deferred 0
+end Rest
+",
+    },
+    Known {
+        name: "queens.df",
+        orders: Orders::ByDepth,
+        prints: b"output 0 40
+deferred 0
+end Rest
+",
+    },
+    Known {
+        name: "tak.df",
+        orders: Orders::ByDepth,
+        prints: b"output 0 5
 deferred 0
 end Rest
 ",
