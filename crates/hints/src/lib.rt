@@ -196,12 +196,12 @@ fn credits_cause(counts: CallCounts, frames: u64) -> Option<Text> {
 }
 
 /// What is said of a run whose loops want credits alone, with the loops whose bounds are less than these iterations. Where that is one, it is the one whose
-/// bound is too small, and the place.
+/// bound is too small, and its line is the place, if there is no other.
 fn with_loops<'a>(found: Found<'a>, input: &'a [u8], iterations: u64) -> Found<'a> {
     let text = split_graph(input).0;
     let loops = LoopLines::below(text, iterations);
     let found = found.with([Special::Loops(loops); 2]);
-    let Some(line) = loops.only() else {
+    let (None, Some(line)) = (found.place, loops.only()) else {
         return found;
     };
     let mut numbers = found.numbers;

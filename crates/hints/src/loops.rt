@@ -46,7 +46,16 @@ impl LoopLines {
         (self.count == 1).then_some(self.first[0])
     }
 
-    /// Shows the loops as `the loop in line 4`, or `one or more of the loops in lines 4, 9 and 2 more`.
+    /// What is before line number `at` of those that are named.
+    fn before(&self, at: usize) -> &'static str {
+        match at.saturating_add(1) {
+            1 => "",
+            place if place == self.count => " and ",
+            _ => ", ",
+        }
+    }
+
+    /// Shows the loops as `the loop in line 4`, or `one or more of the loops in lines 4 and 9`.
     pub fn show<W: fmt::Write>(&self, f: &mut fmt::Formatter<W>) -> fmt::Result {
         match self.count {
             0 => return f.write_str("a loop"),
@@ -54,7 +63,7 @@ impl LoopLines {
             _ => f.write_str("one or more of the loops in lines ")?,
         }
         for (at, line) in self.first.iter().take(self.count).enumerate() {
-            f.write_str(if at == 0 { "" } else { ", " })?;
+            f.write_str(self.before(at))?;
             write!(f, "{line}")?;
         }
         match self.count.saturating_sub(NAMED) {
