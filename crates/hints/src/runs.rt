@@ -385,10 +385,8 @@ pub fn end_fault<'a>(case: &Case<'_, 'a>, ending: Ending) -> Option<Found<'a>>
     let counted = end_cause(case, ending)?;
     let others = [0, frames_of(case.request)];
     let found = shown(case, rule_of(ending), counted, others);
-    Some(Found {
-        words: [order_advice(case.request); 2],
-        ..found
-    })
+    let words = [order_advice(case.request); 2];
+    Some(Found::of(found.place, found.cause, words, found.parts, found.numbers))
 }
 
 /// Why the run of a row of a profile did not end at rest.
