@@ -44,9 +44,9 @@ picks-end: an order has $b picks at most, and more was to be done after them: sm
 steps-or-picks-end: an element made its $a step$A, or the $b picks of an order ran out: raise --steps ($b at most); else smaller inputs, or fewer --elements, take fewer picks
 wave-end: --steps $a does not allow all activities of the next wave: raise it ($b at most), if the graph ends at all
 activities-end: --steps $a allows no further activity, and there is one: raise it, if the graph ends at all
-no-frame: $a request$A for a frame at the end, where no frame was free: raise --frames (1024 at most), or --elements (16 at most)$1
-no-frame-of-enough: $a request$A for a frame at the end, where no frame was free: raise --frames (1024 at most), or --elements (16 at most)$1; $e frames of all elements together suffice in every order, if --steps does
-no-frame-of-enough-bounds: $a request$A for a frame at the end, where no frame was free: raise --frames (1024 at most), or --elements (16 at most)$1; $e frames of all elements together suffice in every order where each loop's bound is at least $f, if --steps does
+no-frame: $a request$A for a frame at the end, where no frame was free: raise --frames (1024 at most), or --elements (16 at most)$y
+no-frame-of-enough: $a request$A for a frame at the end, where no frame was free: raise --frames (1024 at most), or --elements (16 at most)$y; $e frames of all elements together suffice in every order, if --steps does
+no-frame-of-enough-bounds: $a request$A for a frame at the end, where no frame was free: raise --frames (1024 at most), or --elements (16 at most)$y; $e frames of all elements together suffice in every order where each loop's bound is at least $f, if --steps does
 no-frame-in-row: $a request$A for a frame at its end, where none of its $d frame$D was free: raise --frames (1024 at most), or leave $c out of --elements
 failed-row: the run on $c element$C does not end at rest, so its rounds are not those of all the work
 readers: $a reader$A at the end of cells that no store filled: `ets trace` shows them, each with a `read` that is `deferred` and no `write`
@@ -56,7 +56,7 @@ no-credit: $b request$B for a loop's credit at the end, where no iteration could
 no-credit-of-enough: $b request$B for a loop's credit at the end, and none for a frame: there are as many as suffice in every order, $e; the bound of $x, k in `loop F k ..`, is too small for the order in which cells are stored and read, and bounds of at least $f, the iterations of all loops together, suffice in every order, if --steps does
 no-credit-of-enough-own: $b request$B for a loop's credit at the end, and none for a frame: there are as many as suffice in every order, $e; the bound of $x, k in `loop F k ..`, is too small for the order in which cells are stored and read, and a bound of at least the loop's own iterations suffices in every order, if --steps does
 no-credit-of-code: $b request$B for a loop's credit at the end, where no iteration could end: raise the bound k of `open`, `take`, `give` and `drain`, unless the code gives no credit back
-no-frame-no-credit: $a request$A for a frame and $b request$B for a loop's credit at the end: raise --frames (1024 at most), or --elements (16 at most)$1, and the bound k of the loops
+no-frame-no-credit: $a request$A for a frame and $b request$B for a loop's credit at the end: raise --frames (1024 at most), or --elements (16 at most)$y, and the bound k of the loops
 clash: a second store came to cell $a of array $b: a cell takes one store in a run
 named-clash: a second store came to cell $a of array $p: a cell takes one store in a run
 stuck-object: the object is at fault, as no object of `ets compile` is, and the report does not name the token: `ets dis` lists the code, and docs/DEFINITIONS.md has the rules, in part 4

@@ -25,6 +25,8 @@ pub enum Special {
     /// Cells, whose arrays are in the first lines of `$p`.
     Readers(ReaderCells),
     Loops(LoopLines),
+    /// The order of tokens that may be tried, too.
+    Depth,
 }
 
 /// A cause, with two numbers.
@@ -58,6 +60,7 @@ impl Display for Special {
             Special::Programming(kind) => Display::fmt(&kind, f),
             Special::Readers(cells) => Display::fmt(&cells.count, f),
             Special::Loops(loops) => loops.show(f),
+            Special::Depth => f.write_str(", or try --take depth"),
         }
     }
 }

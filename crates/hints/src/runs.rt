@@ -8,7 +8,7 @@ use crate::blocks::Block;
 use crate::catalog::Text;
 use crate::fields::literal_fault;
 use crate::lines::{is_full, is_line_feed, last_line, line_at, split_graph, text_at, word_at};
-use crate::message::{Counted, Found, nowhere};
+use crate::message::{Counted, Found, Special, nowhere};
 use crate::words::{Sought, first_of};
 use command_line::{Inputs, Mode, Request, RunOptions, Sizes, Take};
 use object_view::Object;
@@ -366,15 +366,15 @@ fn frames_of(request: &Request) -> u64 {
 }
 
 /// What is said of the order of tokens to one whose run wants frames, where there is another order that may want fewer.
-fn order_advice(request: &Request) -> &'static str {
+fn order_advice(request: &Request) -> Special {
     match request {
         Request::Run(options)
         | Request::RunEnough(options)
         | Request::Exec { options, .. }
         | Request::Trace { options, .. }
             if options.mode == Some(Mode::One) && options.take == Some(Take::Oldest) =>
-            ", or try --take depth",
-        _ => "",
+            Special::Depth,
+        _ => Special::Nothing,
     }
 }
 
@@ -385,8 +385,7 @@ pub fn end_fault<'a>(case: &Case<'_, 'a>, ending: Ending) -> Option<Found<'a>>
     let counted = end_cause(case, ending)?;
     let others = [0, frames_of(case.request)];
     let found = shown(case, rule_of(ending), counted, others);
-    let words = [order_advice(case.request); 2];
-    Some(Found::of(found.place, found.cause, words, found.parts, found.numbers))
+    Some(found.with([Special::Nothing, order_advice(case.request)]))
 }
 
 /// Why the run of a row of a profile did not end at rest.
