@@ -46,19 +46,25 @@ def attempt(command):
     return given if inputs is None else {**given, "inputs": " ".join(inputs.split("\\n")).strip()}
 
 
-def console(lines):
-    """A block of commands and of what they print, with a button for each that can be tried."""
-    shown = f"<pre>{html.escape(chr(10).join(lines), False)}</pre>"
-    buttons = []
+def console(lines, first):
+    """A block of commands and of what they print, with a button for each that can be tried. The file `first` is in the editor from the beginning, so it is not shown again; and a
+    picture is drawn by a button, and not by Graphviz."""
+    kept, buttons, is_left_out = [], [], False
     for line in lines:
         opened = re.fullmatch(r"\$ cat tutorial/(\S+\.(?:df|ets))", line)
+        pictured = re.fullmatch(r"\$ sed '/\^main /q' tutorial/(\S+\.ets) \| ets dot > .*", line)
         tried = attempt(line[2:]) if line.startswith("$ ") else None
+        is_left_out = bool(opened and opened[1] == first or pictured or line.startswith("$ dot ")) if line.startswith("$ ") else is_left_out
+        kept += [] if is_left_out else [line]
         if opened:
-            buttons.append(("Open in the editor", {"file": opened[1]}))
+            buttons.append((f"Open {opened[1]}", {"file": opened[1]}))
+        elif pictured:
+            buttons.append((f"Graph of {pictured[1]}", {"file": pictured[1], "deed": "graph", "options": {}}))
         elif tried:
             words = " ".join([tried["deed"].capitalize(), tried["file"], *[f"{name} {value}" for name, value in tried["options"].items()]])
             buttons.append((words + (f", inputs {tried['inputs']}" if "inputs" in tried else ""), tried))
     made = "".join(f'<button type="button" data-try="{html.escape(json.dumps(it))}">{html.escape(words)}</button>' for words, it in buttons)
+    shown = f"<pre>{html.escape(chr(10).join(kept), False)}</pre>" if kept else ""
     return shown + (f'<div class="tries">{made}</div>' if made else "")
 
 
@@ -78,8 +84,8 @@ def picture(line, folder):
     return f'<details><summary>{inline(text)}</summary><img alt="{html.escape(text)}" src="data:image/svg+xml;base64,{data}"></details>'
 
 
-def html_of(lines, folder):
-    """A part of the tutorial."""
+def html_of(lines, folder, first):
+    """A part of the tutorial, which begins with the file `first`."""
     made, at = [], 0
 
     def taken(is_more):
@@ -96,7 +102,7 @@ def html_of(lines, folder):
             at += 1
         elif line.startswith("```"):
             at += 1
-            made.append(console(taken(lambda it: not it.startswith("```"))))
+            made.append(console(taken(lambda it: not it.startswith("```")), first))
             at += 1
         elif line.startswith("|"):
             made.append(table(taken(lambda it: it.startswith("|"))))
@@ -128,5 +134,5 @@ def lessons(path, folder):
         step = re.match(r"Step (\d+)", title)
         key = step[1] if step else re.sub(r"[^a-z0-9]+", "-", title.lower()).strip("-")
         files = list(dict.fromkeys(re.findall(r"tutorial/(\S+?\.(?:df|ets))\b", text)))
-        made.append({"key": key, "title": title, "html": html_of(text.split("\n"), folder), "files": files})
+        made.append({"key": key, "title": title, "html": html_of(text.split("\n"), folder, files[0] if files else None), "files": files})
     return made

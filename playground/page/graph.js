@@ -104,7 +104,7 @@ function pictureOf(block, nameOf, goTo) {
   const all = layers.flat(), least = Math.min(...all.map((it) => it.x - it.wide / 2)), most = Math.max(...all.map((it) => it.x + it.wide / 2));
   for (const it of all) { it.x += 12 - least; it.y = it.layer * LAYER + 20; }
   const wide = Math.ceil(most - least) + 24, high = (layers.length - 1) * LAYER + 40;
-  const svg = drawn('svg', { viewBox: `0 0 ${wide} ${high}`, width: wide, height: high, role: 'group', 'aria-label': `graph of ${block.name}`, class: 'graph' });
+  const svg = drawn('svg', { viewBox: `0 0 ${wide} ${high}`, width: wide, height: high, role: 'group', 'aria-label': `graph of ${block.name}`, class: 'net' });
   for (const { way, port, at } of arcs) svg.append(...arcOf(way, port, at));
   for (const it of block.nodes) {
     const name = nameOf(it), title = drawn('title', {}, `node ${it.number}: ${it.label}${it.arm && it.arm !== '-' ? `, in arm ${it.arm}` : ''}${name ? `, ${name}` : ''}`);

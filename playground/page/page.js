@@ -65,33 +65,23 @@ function rest() {
 
 function say(...what) { at('said').replaceChildren(...what); }
 
-// ---- The editor: a field, with coloured text below it, numbers of lines, and a mark
+// ---- The editor: a field without colour, and below it the same text with colours, numbers of lines, and a mark
 
-const LINE = 20;
 const colours = data.grammars.map((it) => new Colours(it));
 const isGraph = () => /^etsgraph /.test(at('program').value);
 const hasInputs = () => !isGraph() && /^inputs$/m.test(at('program').value);
-const mark = { line: 0, column: 0, length: 0 };
+const mark = { line: 0, from: 0, length: 0 };
 
 function show() {
-  const text = at('program').value, lines = text.split('\n').length;
-  at('shown').innerHTML = colours[isGraph() ? 1 : 0].html(text) + '\n';
-  at('numbers').replaceChildren(...Array.from({ length: lines }, (_, it) => make('span', { textContent: it + 1, className: it + 1 === mark.line ? 'ill' : '' })));
+  const lines = colours[isGraph() ? 1 : 0].html(at('program').value).split('\n');
+  at('shown').innerHTML = lines.map((it) => `<div>${it || '<br>'}</div>`).join('');
   if (mark.line) {
-    const begin = offsetOf(mark.line, 1), line = text.slice(begin).split('\n')[0], from = mark.column ? mark.column - 1 : 0;
-    const it = make('span', { id: 'mark', textContent: ' '.repeat(from) });
-    it.append(make('u', { textContent: ' '.repeat(Math.max(1, mark.column ? mark.length : line.length)) }));
-    it.style.top = `${10 + (mark.line - 1) * LINE}px`;
-    at('shown').prepend(it);
+    const line = at('shown').children[mark.line - 1], text = line.textContent, end = mark.length ? mark.from + mark.length : text.length;
+    line.className = 'ill';
+    line.prepend(make('span', { className: 'mark' }, text.slice(0, mark.from), make('u', { textContent: text.slice(mark.from, end) || ' ' })));
   }
   at('inputs').disabled = hasInputs();
   at('inputs').placeholder = hasInputs() ? 'after the line `inputs` of the program' : 'none';
-  follow();
-}
-
-function follow() {
-  at('shown').style.transform = `translate(${-at('program').scrollLeft}px,${-at('program').scrollTop}px)`;
-  at('numbers').style.transform = `translateY(${-at('program').scrollTop}px)`;
 }
 
 // Where a line and a column begin in the text. Columns are counted in bytes.
@@ -107,35 +97,27 @@ function wordAt(line, column) {
 }
 
 function setMark(line, column, hint) {
-  const it = line && column ? wordAt(line, column) : null;
-  Object.assign(mark, { line, column: it ? it.from + 1 : 0, length: it ? it.length : 0 });
+  const it = line && column ? wordAt(line, column) : { from: 0, length: 0 };
+  Object.assign(mark, { line, from: it.from, length: it.length });
   at('hint').hidden = !hint;
-  if (hint) {
-    const where = line ? [make('button', { type: 'button', textContent: column ? `Line ${line}, column ${column}` : `Line ${line}`, onclick: () => goTo(line, column || 1) }), ' '] : [];
-    at('hint').replaceChildren(...where, ...hint);
-  }
+  at('hint').replaceChildren(...hint && line ? [placeButton(line, column || 1, column ? `Line ${line}, column ${column}` : `Line ${line}`), ' '] : [], hint ?? '');
   show();
   if (line) reveal(line);
 }
 
-function reveal(line) {
-  const it = at('program'), top = (line - 1) * LINE;
-  if (top < it.scrollTop || top > it.scrollTop + it.clientHeight - 3 * LINE) it.scrollTop = Math.max(0, top - it.clientHeight / 2);
-}
+const reveal = (line) => at('shown').children[line - 1]?.scrollIntoView({ block: 'nearest' });
 
 // Puts the cursor on what stands there.
 function goTo(line, column) {
   const it = wordAt(line, column);
-  reveal(line);
-  at('program').focus();
+  at('program').focus({ preventScroll: true });
   at('program').setSelectionRange(it.begin, it.begin + it.length);
-  at('editor').scrollIntoView({ block: 'nearest' });
+  reveal(line);
 }
 
 // A button that leads to a place of the program.
 const placeButton = (line, column, words) => make('button', { type: 'button', className: 'place', textContent: words ?? `line ${line}, column ${column}`, onclick: () => goTo(line, column) });
 
-at('program').addEventListener('scroll', follow);
 at('program').addEventListener('input', () => {
   at('example').value = '';
   setMark(0);
@@ -166,17 +148,19 @@ function tellSizes() {
 function setProgram({ text, inputs }, given) {
   at('program').value = text.replace(/\n*$/, '\n');
   at('inputs').value = inputs;
-  at('program').scrollTop = at('program').scrollLeft = 0;
+  at('editor').scrollTop = 0;
   if (given) setSizes(given);
   setMark(0);
   save();
 }
 
-// The text that the first command reads.
+const program = () => at('program').value.replace(/\n*$/, '\n');
+
+// The program and its inputs, as the first command reads them.
 function given() {
-  const program = at('program').value.replace(/\n*$/, '\n'), inputs = at('inputs').value.trim().split(/[\s,]+/).filter((it) => it);
-  if (hasInputs()) return program;
-  return program + (isGraph() ? '' : 'inputs\n') + inputs.map((it) => it + '\n').join('');
+  const inputs = at('inputs').value.trim().split(/[\s,]+/).filter((it) => it);
+  if (hasInputs()) return program();
+  return program() + (isGraph() ? '' : 'inputs\n') + inputs.map((it) => it + '\n').join('');
 }
 
 // The options that differ from what `ets` takes where nothing is said.
@@ -201,7 +185,8 @@ async function act(which) {
   for (const it of DEEDS) at(it).setAttribute('aria-pressed', it === which);
   setMark(0);
   at('inputs').removeAttribute('aria-invalid');
-  const text = given(), last = COMMANDS[which](), commands = [...isGraph() ? [] : [['lower']], ...last ? [last] : isGraph() ? [['check']] : []];
+  const last = COMMANDS[which](), commands = isGraph() ? [last ?? ['check']] : [['lower'], ...last ? [last] : []];
+  const text = last || !isGraph() ? given() : program();
   const begun = performance.now();
   at('stop').disabled = false;
   document.body.classList.add('busy');
@@ -212,8 +197,7 @@ async function act(which) {
   const { done, took } = await ask(commands, text), end = done[done.length - 1], isAll = done.length === commands.length;
   const places = end.trap || isGraph() || !isAll ? new Map() : await placesOf(text);
   rest();
-  const line = (isGraph() ? 'ets ' : 'ets lower | ets ') + (last ?? ['check']).join(' ');
-  say(make('code', { textContent: which === 'graph' && !isGraph() ? 'ets lower' : line }), ` ${took < 1000 ? `${took.toFixed(0)} ms` : `${(took / 1000).toFixed(1)} s`}`);
+  say(make('code', { textContent: commands.map((it) => ['ets', ...it].join(' ')).join(' | ') }), ` ${took < 1000 ? `${took.toFixed(0)} ms` : `${(took / 1000).toFixed(1)} s`}`);
   const out = at('out');
   out.className = which;
   out.scrollTop = 0;
@@ -228,7 +212,8 @@ async function act(which) {
   if (matchMedia('(max-width:760px)').matches && document.activeElement === at(which)) at('result').scrollIntoView({ behavior: 'smooth' });
 }
 
-const plain = (err) => err.trimEnd().replace(/^hint: /gm, '');
+// What the hints say, but for the line as it is written, which the editor shows.
+const plain = (err) => err.trimEnd().replace(/^hint: /gm, '').replace(/^line \d+ is `.*`(; at column \d+ is `.*`)?\n/m, '');
 
 // The place in the program of each node: `at BLOCK NODE line LINE column COLUMN`.
 async function placesOf(text) {
@@ -241,13 +226,13 @@ function tellRefusal({ out, err }, isAfterLower) {
   const first = out.split('\n')[0], text = plain(err), found = isAfterLower ? null : /\bline (\d+)(?:,? column (\d+))?/.exec(first) ?? /\bline (\d+)/.exec(text);
   const [line, column] = found ? [+found[1], +(found[2] ?? 0)] : [0, 0];
   if (isAfterLower && !/memory/.test(first)) at('inputs').setAttribute('aria-invalid', true);
-  setMark(line, column, [text || first]);
-  at('out').append(make('p', { className: 'end bad', textContent: 'Refused: ' + (line ? `there is a mistake in line ${line}.` : 'it cannot be run.') }), make('pre', { textContent: first + '\n' + text }));
+  setMark(line, column, text || first);
+  at('out').append(make('p', { className: 'end bad', textContent: 'Refused: ' + (line ? `there is a mistake in line ${line}.` : 'it cannot be run.') }), make('pre', { textContent: first }));
 }
 
 // What each kind of line of a report tells.
 const GLOSSES = [
-  [/^output (\d+)/, (it) => `value ${+it[1] + 1} of main`],
+  [/^output (\d+)/, (it, isOnly) => isOnly ? 'the value of main' : `value ${+it[1] + 1} of main`],
   [/^cell (\w+) (\d+)/, (it) => `${it[1]}[${it[2]}]`],
   [/^deferred 0$/, () => 'no reader waits for a cell'],
   [/^deferred (\d+)/, (it) => `${it[1]} wait for a cell that nothing filled`],
@@ -267,15 +252,17 @@ const ENDS = {
 
 function tellReport(text, places) {
   const lines = text.trimEnd().split('\n'), end = /^end (\w+)/m.exec(text), isWaiting = /^deferred [1-9]/m.test(text);
-  const [kind, words] = end?.[1] === 'Rest' && isWaiting ? ['bad', 'At rest, but readers wait for cells that nothing filled.'] : ENDS[end?.[1]] ?? ['bad', ''];
+  const isFaulty = /^output \d+ fault/m.test(text);
+  const [kind, words] = end?.[1] !== 'Rest' ? ENDS[end?.[1]] ?? ['bad', ''] :
+    isWaiting ? ['bad', 'At rest, but readers wait for cells that nothing filled.'] : isFaulty ? ['bad', 'At rest, with a fault for a value.'] : ENDS.Rest;
   if (words) at('out').append(make('p', { className: `end ${kind}`, textContent: words }));
-  const table = make('div', { className: 'report' });
+  const table = make('div', { className: 'report' }), isOnly = !/^output 1 /m.test(text);
   for (const line of lines) {
     const code = make('code'), gloss = GLOSSES.map(([form, tell]) => [form.exec(line), tell]).find(([it]) => it);
     const fault = /^(.* fault \w+ )(at (\d+) (\d+))$/.exec(line), place = fault && places.get(`${fault[3]} ${fault[4]}`);
     if (place) code.append(fault[1] + fault[2] + ' ', placeButton(...place));
     else code.append(line);
-    table.append(make('div', {}, code, make('small', { textContent: gloss ? gloss[1](gloss[0]) : '' })));
+    table.append(code, make('small', { textContent: gloss ? gloss[1](gloss[0], isOnly) : '' }));
   }
   at('out').append(table);
 }
@@ -364,7 +351,7 @@ at('previous').addEventListener('click', () => turnLesson(-1));
 at('next').addEventListener('click', () => turnLesson(1));
 at('leave').addEventListener('click', () => { openLesson(''); at('program').focus(); });
 
-at('lesson').append(new Option('none', ''), ...data.lessons.map((it) => new Option(it.title, it.key)));
+at('lesson').append(new Option('no lesson', ''), ...data.lessons.map((it) => new Option(it.title, it.key)));
 at('example').append(new Option('own program', ''), ...Object.keys(data.examples).map((it) => new Option(it.replace(/\.df$/, '').replace(/_/g, ' '), it)));
 
 // ---- The link: `#1` and what is given, packed; `#example=NAME`; `#lesson=KEY`
@@ -417,7 +404,7 @@ at('share').addEventListener('click', async () => {
 // ---- About
 
 function fillAbout() {
-  const { facts } = data, rows = Object.entries(facts).flatMap(([name, text]) => [make('dt', { textContent: name }), make('dd', { textContent: text })]);
+  const { facts } = data, rows = Object.entries(facts).filter(([name]) => name !== 'proof').flatMap(([name, text]) => [make('dt', { textContent: name }), make('dd', { textContent: text })]);
   const paragraph = (text, className = '') => make('p', { textContent: text, className });
   at('about').append(
     make('h2', { textContent: 'What this page is' }),
@@ -438,7 +425,7 @@ at('what').addEventListener('click', () => at('about').showModal());
 (async () => {
   const begun = performance.now();
   fillAbout();
-  if (data.facts.proof) document.querySelector('h1 span').textContent = 'playground, not proved';
+  if (data.facts.proof) document.querySelector('h1 span').textContent = 'trial, not proved';
   setSizes(GENEROUS);
   at('machine').open = matchMedia('(min-width:761px)').matches;
   setProgram(data.examples['factorial.df']);
