@@ -16,11 +16,11 @@ class Chromium:
         (his, mine), (my, its) = os.pipe(), os.pipe()
         words = ["--headless=new", "--no-sandbox", "--disable-gpu", "--hide-scrollbars", "--remote-debugging-pipe", f"--user-data-dir={self.folder.name}", "about:blank"]
         # The shell gives the descriptors the numbers that Chromium looks for.
-        begin = ["sh", "-c", f'exec "$0" "$@" 3<&{his} 4>&{its}', program, *words]
+        begin = ["bash", "-c", f'exec "$0" "$@" 3<&{his} 4>&{its}', program, *words]
         self.process = subprocess.Popen(begin, pass_fds=(his, its), stdin=subprocess.DEVNULL, stdout=subprocess.DEVNULL, stderr=subprocess.DEVNULL)
         os.close(his), os.close(its)
         self.to, self.number = mine, 0
-        self.answers, self.turn = {}, threading.Condition()
+        self.answers, self.turn, self.pen = {}, threading.Condition(), threading.Lock()
         self.asked, self.complaints, self.frames = [], [], []
         threading.Thread(target=self.listen, args=(my,), daemon=True).start()
         self.session = None
@@ -59,17 +59,14 @@ class Chromium:
             self.number += 1
             number = self.number
         it = {"id": number, "method": method, "params": params, **({"sessionId": session} if session else {})}
-        os.write(self.to, json.dumps(it).encode() + b"\0") if len(json.dumps(it)) < 60000 else self.write_long(json.dumps(it).encode() + b"\0")
+        with self.pen, os.fdopen(os.dup(self.to), "wb") as to:
+            to.write(json.dumps(it).encode() + b"\0")
         with self.turn:
             if not self.turn.wait_for(lambda: self.answers is None or number in self.answers, 90):
                 raise TimeoutError(f"Chromium does not answer {method}")
             if self.answers is None:
                 raise EOFError("Chromium ended")
             return self.answers.pop(number).get("result", {})
-
-    def write_long(self, it):
-        while it:
-            it = it[os.write(self.to, it) :]
 
     def open_tab(self):
         """Opens another page, empty, and drives that from now on."""
