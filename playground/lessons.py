@@ -120,7 +120,10 @@ def html_of(lines, folder, first):
                 items.append(it[2:]) if it.startswith("- ") else items.append(items.pop() + " " + it.strip())
             made.append(f"<ul>{''.join(f'<li>{inline(it)}</li>' for it in items)}</ul>")
         else:
-            made.append(f"<p>{inline(' '.join(taken(lambda it: it and not it.startswith(('```', '|', '![', '    ', '- ')))))}</p>")
+            text = " ".join(taken(lambda it: it and not it.startswith(("```", "|", "![", "    ", "- "))))
+            # The way to this lesson, from the tutorial
+            if not re.fullmatch(r"\[[^\]]*\]\(\S*/playground-\S*\)", text):
+                made.append(f"<p>{inline(text)}</p>")
     return "".join(made)
 
 

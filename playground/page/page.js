@@ -282,7 +282,10 @@ function drawGraph(text, places) {
     const nameOf = (node) => { const it = placeOf(block, node); return it ? `line ${it[0]}` : ''; };
     out.append(make('div', { className: 'picture' }, pictureOf(block, nameOf, (node) => goTo(...placeOf(block, node)))));
   }
-  out.append(make('p', { className: 'key' }, make('span', { className: 'true', textContent: 'in the arm for true' }), ' ', make('span', { className: 'false', textContent: 'in the arm for false' }), own ? '' : ' A node leads to its place in the program.'));
+  const key = make('p', { className: 'key' });
+  if (out.querySelector('.net .true, .net .false')) key.append(make('span', { className: 'true', textContent: 'in the arm for true' }), ' ', make('span', { className: 'false', textContent: 'in the arm for false' }), ' ');
+  key.append('A node leads to its place in the editor.');
+  out.append(key);
   if (!own) {
     const use = make('button', { type: 'button', textContent: 'Edit this graph', onclick: () => { setProgram({ text: text.replace(/(^main .*\n)[^]*/m, '$1'), inputs: at('inputs').value }); at('program').focus(); } });
     out.append(make('details', {}, make('summary', { textContent: 'The graph as text' }), make('pre', { textContent: text }), use));
