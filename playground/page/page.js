@@ -170,8 +170,8 @@ const COMMANDS = {
   run: () => ['run', ...options(...SIZES)],
   graph: () => null,
   trace: () => ['trace', '--format', 'html', '--last', LAST, ...options(...SIZES)],
-  profile: () => ['profile', '--svg', ...options('frames', 'steps', 'take')],
-  orders: () => ['orders', ...options(...SIZES)],
+  profile: () => ['profile', '--svg', ...options('frames', 'steps')],
+  orders: () => ['orders', ...options('elements', 'frames', 'steps')],
 };
 
 // ---- Deeds
@@ -197,7 +197,7 @@ async function act(which) {
   const { done, took } = await ask(commands, text), end = done[done.length - 1], isAll = done.length === commands.length;
   const places = end.trap || isGraph() || !isAll ? new Map() : await placesOf(text);
   rest();
-  say(make('code', { textContent: commands.map((it) => ['ets', ...it].join(' ')).join(' | ') }), ` ${took < 1000 ? `${took.toFixed(0)} ms` : `${(took / 1000).toFixed(1)} s`}`);
+  say(make('code', { textContent: commands.map((it) => ['ets', ...it].join(' ')).join(' | ') }), ` · ${took < 1000 ? `${took.toFixed(0)} ms` : `${(took / 1000).toFixed(1)} s`}`);
   const out = at('out');
   out.className = which;
   out.scrollTop = 0;
@@ -208,7 +208,11 @@ async function act(which) {
   else if (which === 'profile' && end.out.includes('<svg')) out.append(document.importNode(new DOMParser().parseFromString(end.out, 'image/svg+xml').documentElement, true));
   else if (which === 'graph') drawGraph(isGraph() ? text : end.out, places);
   else tellReport(end.out, places);
-  if (!end.out.startsWith('refused:') && end.err) out.prepend(make('div', { className: 'note', textContent: plain(end.err) }));
+  if (!end.out.startsWith('refused:') && end.err) {
+    const note = make('div', { className: 'note', textContent: plain(end.err) }), verdict = out.querySelector('.end');
+    if (verdict) verdict.after(note);
+    else out.prepend(note);
+  }
   if (matchMedia('(max-width:760px)').matches && document.activeElement === at(which)) at('result').scrollIntoView({ behavior: 'smooth' });
 }
 
@@ -244,8 +248,8 @@ const GLOSSES = [
 ];
 const ENDS = {
   Rest: ['good', 'At rest: all that was begun is done.'],
-  Steps: ['bad', 'Stopped: it made as many steps as it may. If it ends at all, more steps are wanted.'],
-  Starved: ['bad', 'Starved: it waits for frames or credits, and none comes. More frames help, or the order depth.'],
+  Steps: ['bad', 'Out of steps: it made as many as it may, and has more to do.'],
+  Starved: ['bad', 'Starved: it waits for frames or credits, and none comes.'],
   Clash: ['bad', 'Clash: a second store into one cell.'],
   Stuck: ['bad', 'Stuck: a rule of the machine excludes a token.'],
 };
@@ -434,6 +438,7 @@ at('what').addEventListener('click', () => at('about').showModal());
   setProgram(data.examples['factorial.df']);
   at('example').value = 'factorial.df';
   await openModule();
-  document.documentElement.dataset.ready = (performance.now() - begun).toFixed(0);
+  const took = performance.now() - begun;
   if (!await restore()) act('run');
+  document.documentElement.dataset.ready = took.toFixed(0);
 })();
