@@ -104,7 +104,7 @@ def make(room, kit, is_try):
     is_made = is_made and call("./wasm-ld", *LINK, "whole.o", "shim.o", "-o", "64.wasm")
     if is_made:
         write(f"{room}/bare.wasm", without_table(contents(f"{room}/64.wasm")))
-        is_made = call("wasm-opt", *FEATURES, "--memory64-lowering", "-O2", "bare.wasm", "-o", "ets.wasm")
+        is_made = call("wasm-opt", *FEATURES, "--memory64-lowering", "-O3", "bare.wasm", "-o", "ets.wasm")
     return None if is_made else said
 
 
