@@ -437,7 +437,11 @@ at('what').addEventListener('click', () => at('about').showModal());
   at('machine').open = matchMedia('(min-width:761px)').matches;
   setProgram(data.examples['factorial.df']);
   at('example').value = 'factorial.df';
-  await openModule();
+  try {
+    await openModule();
+  } catch (it) {
+    return say(`This browser cannot open the program: ${it.message}. It has to know WebAssembly, workers and DecompressionStream, as browsers since 2023 do.`);
+  }
   const took = performance.now() - begun;
   if (!await restore()) act('run');
   document.documentElement.dataset.ready = took.toFixed(0);
