@@ -281,7 +281,7 @@ function drawGraph(text, places) {
   const own = isGraph(), out = at('out');
   const placeOf = (block, node) => own ? [node.line, 1] : places.get(`${block.number} ${node.number}`);
   for (const block of blocksOf(text)) {
-    out.append(make('h2', { textContent: `${own ? 'block' : 'fn'} ${block.name}` }));
+    out.append(make('h2', { textContent: `${own ? 'block' : /__/.test(block.name) ? 'loop' : 'fn'} ${block.name}` }));
     if (block.nodes.length > 600) { out.append(make('p', { textContent: `It has ${block.nodes.length} nodes, which is too much for a picture.` })); continue; }
     const nameOf = (node) => { const it = placeOf(block, node); return it ? `line ${it[0]}` : ''; };
     out.append(make('div', { className: 'picture' }, pictureOf(block, nameOf, (node) => goTo(...placeOf(block, node)))));
@@ -414,6 +414,7 @@ function fillAbout() {
   const { facts } = data, rows = Object.entries(facts).filter(([name]) => name !== 'proof').flatMap(([name, text]) => [make('dt', { textContent: name }), make('dd', { textContent: text })]);
   const paragraph = (text, className = '') => make('p', { textContent: text, className });
   at('about').append(
+    make('form', { method: 'dialog' }, make('button', { textContent: 'Close', className: 'main' })),
     make('h2', { textContent: 'What this page is' }),
     paragraph(`It is the program ets ${facts.version}: a compiler and an emulator of a dataflow machine of the Monsoon kind. It runs here, in your browser, as WebAssembly. The page asks nobody for anything, keeps nothing, and needs no network.`),
     facts.proof ? paragraph(facts.proof, 'bad') : paragraph('The program is proved: that the report of a run tells the truth about the program is the contract of the function that makes it. What was proved is handed to another compiler here than for Linux.'),
@@ -421,8 +422,7 @@ function fillAbout() {
     paragraph('To check it: playground/check PAGE, in the repository, plays the sessions of the command line against the module of the page, and compares both streams and the status, byte for byte. playground/make makes the page again, with the same bytes.'),
     make('h2', { textContent: 'How to use it' }),
     paragraph('Ctrl+Enter does again what was done last, Escape stops it. A text that begins with etsgraph is a graph, and is run as such. A link has the program, its inputs and the sizes of the machine behind the #; whoever opens it needs this page at the same address, or a copy of it, and puts what is from # on behind its address. The machine here has one thread.'),
-    make('h2', { textContent: 'Made from' }), make('dl', {}, ...rows),
-    make('form', { method: 'dialog' }, make('button', { textContent: 'Close', className: 'main' })));
+    make('h2', { textContent: 'Made from' }), make('dl', {}, ...rows));
 }
 
 at('what').addEventListener('click', () => at('about').showModal());
