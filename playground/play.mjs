@@ -1,0 +1,16 @@
+// Runs commands with the module of a page, as the page's worker does: node play.mjs PAGE. On standard input each line is [words, input], on standard output
+// each is [status, output, errors]; all but the status are in base64. A status that is no number says why the module broke off.
+import { readFileSync } from 'node:fs';
+import { createInterface } from 'node:readline';
+import { gunzipSync } from 'node:zlib';
+
+const page = readFileSync(process.argv[2], 'utf8');
+const part = (id) => new RegExp(`<script[^>]* id="${id}">([^]*?)</script>`).exec(page)[1];
+const runCommand = new Function(`let onmessage; ${part('worker')}; return runCommand;`)();
+const module = new WebAssembly.Module(gunzipSync(Buffer.from(part('module'), 'base64')));
+
+for await (const line of createInterface({ input: process.stdin })) {
+  const [words, input] = JSON.parse(line), bytes = (it) => Buffer.from(it, 'base64');
+  const { status, trap, out, err } = runCommand(module, words.map(bytes), bytes(input));
+  console.log(JSON.stringify([trap ?? status, Buffer.from(out).toString('base64'), Buffer.from(err).toString('base64')]));
+}
