@@ -7,15 +7,31 @@ use std::sync::Wait;
 use std::thread::Threads;
 
 /// The words of an order of events: a mode, and which of its tokens an element takes.
-type Order = [&'static str; 2];
+#[derive(Clone, Copy)]
+struct Order {
+    mode: &'static str,
+    take: &'static str,
+}
 
-const BY_DEPTH: Order = ["one", "depth"];
+const BY_DEPTH: Order = Order {
+    mode: "one",
+    take: "depth",
+};
 
 const ORDERS: [Order; 4] = [
-    ["one", "oldest"],
+    Order {
+        mode: "one",
+        take: "oldest",
+    },
     BY_DEPTH,
-    ["rounds", "oldest"],
-    ["free", "oldest"],
+    Order {
+        mode: "rounds",
+        take: "oldest",
+    },
+    Order {
+        mode: "free",
+        take: "oldest",
+    },
 ];
 
 const ELEMENTS: [&str; 5] = ["1", "2", "4", "7", "16"];
@@ -83,7 +99,7 @@ pub fn told(alloc: Global, report: &[u8]) -> Result<Vec<u8>, AllocError> {
 
 /// The report of a run of a graph on the inputs after it.
 fn report_of<R: Threads + Wait + Sync>(rt: &R, alloc: Global, input: &[u8], way: Way) -> Vec<u8> {
-    let [mode, take] = way.order;
+    let Order { mode, take } = way.order;
     let elements = way.elements;
     let words = [
         "ets",
