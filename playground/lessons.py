@@ -37,7 +37,7 @@ def attempt(command):
         return None
     words = shlex.split(found["options"] or "")
     options = dict(zip(words[::2], words[1::2]))
-    if not set(options) <= {"--elements", "--frames", "--steps"} or found["deed"] == "profile":
+    if not set(options) <= {"--elements", "--frames", "--steps", "--take"} or found["deed"] == "profile":
         options = {} if found["deed"] in ("orders", "trace", "profile") else None
     if options is None:
         return None
