@@ -70,7 +70,7 @@ pub struct Way {
 
 impl fmt::Display for Way {
     fn fmt<W: fmt::Write>(&self, f: &mut fmt::Formatter<W>) -> fmt::Result {
-        let [mode, take] = self.order;
+        let Order { mode, take } = self.order;
         write!(
             f,
             "--mode {mode} --take {take} --elements {}",
