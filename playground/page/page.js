@@ -178,7 +178,8 @@ const COMMANDS = {
 
 let deed = 'run';
 
-async function act(which) {
+// Does a deed. On a phone, where what comes is below, the page moves to it if a button asked for it.
+async function act(which, isAsked = false) {
   if (!worker.module) return;
   stop();
   deed = which;
@@ -213,7 +214,7 @@ async function act(which) {
     if (verdict) verdict.after(note);
     else out.prepend(note);
   }
-  if (matchMedia('(max-width:760px)').matches && document.activeElement === at(which)) at('result').scrollIntoView({ behavior: 'smooth' });
+  if (isAsked && matchMedia('(max-width:760px)').matches) at('result').scrollIntoView({ behavior: 'smooth' });
 }
 
 // What the hints say, but for the line as it is written, which the editor shows.
@@ -296,7 +297,7 @@ function drawGraph(text, places) {
   }
 }
 
-for (const it of DEEDS) at(it).addEventListener('click', () => act(it));
+for (const it of DEEDS) at(it).addEventListener('click', () => act(it, true));
 at('stop').addEventListener('click', stop);
 document.addEventListener('keydown', (event) => {
   if (event.key === 'Enter' && (event.ctrlKey || event.metaKey)) { event.preventDefault(); act(deed); }
@@ -350,7 +351,7 @@ at('text').addEventListener('click', ({ target }) => {
   const { file, inputs, deed: which, options: other } = JSON.parse(target.dataset.try);
   openFile(file, { ...USUAL, ...other });
   if (inputs !== undefined) at('inputs').value = inputs;
-  act(which ?? 'run');
+  act(which ?? 'run', true);
 });
 at('lesson').addEventListener('change', () => openLesson(at('lesson').value));
 at('example').addEventListener('change', () => { if (at('example').value) openExample(at('example').value); });
