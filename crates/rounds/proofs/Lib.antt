@@ -1,4 +1,5 @@
 pub mod Going
+pub mod Taking
 pub mod Turning
 pub mod Counting
 pub mod Rounding

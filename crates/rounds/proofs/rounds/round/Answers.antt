@@ -21,7 +21,7 @@ deliver_all-requires-clause-at g c =
     let made = c.in_ok-all.ensures.made in
     let new = c.make_whole_round.new.turners.items in
     subst (λ (n : ℕ). AllFrom (IsAt n) 0 (lanes_held new)) (sym (ap (λ (x : Setting). x.elements) c.make_whole_round.ensures.setting))
-    (at_all {C = g.row.C.Denot} {A = g.row.A.Denot} {L = g.row.L.Denot} s g.L.Log.KEEPS_EVENTS g.G.Gate.may_stop c.args.turners.now.items new
+    (at_all {C = g.row.C.Denot} {A = g.row.A.Denot} {L = g.row.L.Denot} c.args.way.take s g.L.Log.KEEPS_EVENTS g.G.Gate.may_stop c.args.turners.now.items new
     c.args.setup.now.log.events.items c.make_whole_round.new.setup.log.events.items (c.make_whole_round.new.tokens.items ++ tokens_sent new) made)
 
 pub returns-in-Ok-clause-rounds : goal.returns-in-Ok-clause-rounds
@@ -39,7 +39,7 @@ returns-in-Ok-clause-rounds g c =
     let value = c.deref.ensures.value in
     let why : IsWhy (lanes_held last) (halts_in last) c.why.result = subst (λ (l : List (Turner g.row.C.Denot g.row.A.Denot g.row.L.Denot)). IsWhy
     (lanes_held l) (halts_in l) c.why.result) value c.why.ensures in
-    closed_round {C = g.row.C.Denot} {A = g.row.A.Denot} {L = g.row.L.Denot} s g.L.Log.KEEPS_EVENTS g.G.Gate.may_stop old new
+    closed_round {C = g.row.C.Denot} {A = g.row.A.Denot} {L = g.row.L.Denot} c.args.way.take s g.L.Log.KEEPS_EVENTS g.G.Gate.may_stop old new
     c.args.setup.now.log.events.items c.make_whole_round.new.setup.log.events.items (tokens ++ tokens_sent new) made last got.same.0
     (got.same.1 ∙ ap (λ (l : List Token). delivered l (lanes_held new)) (sym all)) (subst (λ (l : List Fixed). All (RunsAs s) l) (sym h.fixed)
     made.runs) got.same.2 (h.sent ∙ none) (h.events ∙ made.cleared) h.halts c.why.result why
@@ -63,7 +63,7 @@ returns-in-Err-clause-rounds g c =
     let h = c.deliver_all.ensures in
     let none : tokens_sent new ≡ [] = c.in_ok-all.ensures.all (let t = c.if-not-all.false in cc) in
     let all : tokens ++ tokens_sent new ≡ tokens = ap (λ (l : List Token). tokens ++ l) none ∙ append-nil tokens in
-    refused_delivering {C = g.row.C.Denot} {A = g.row.A.Denot} {L = g.row.L.Denot} s g.L.Log.KEEPS_EVENTS g.G.Gate.may_stop c.args.turners.now.items
+    refused_delivering {C = g.row.C.Denot} {A = g.row.A.Denot} {L = g.row.L.Denot} c.args.way.take s g.L.Log.KEEPS_EVENTS g.G.Gate.may_stop c.args.turners.now.items
     new c.args.setup.now.log.events.items c.make_whole_round.new.setup.log.events.items (tokens ++ tokens_sent new) c.in_ok-all.ensures.made
     c.deliver_all.new.turners.items h.same.0
     (h.same.1 ∙ ap (λ (l : List Token). delivered l (lanes_held new)) (sym all))
