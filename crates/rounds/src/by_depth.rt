@@ -1,6 +1,6 @@
 //! The turn of element 0 where it holds back the requests for frames that its queue begins with.
 
-ghost use Rattle.std.specs.Prelude.{◌≡◌, ℕ, ◌+◌, ◌<◌, ◌≤◌, ◌^◌, ◌⊎◌, List, [], ◌∷◌, length, true, false, Some, IfOk, IfErr, OnOk, OnErr};
+ghost use Rattle.std.specs.Prelude.{◌≡◌, ℕ, ◌+◌, ◌-◌, ◌<◌, ◌≤◌, ◌^◌, ◌⊎◌, List, [], ◌∷◌, length, true, false, Some, IfOk, IfErr, OnOk, OnErr};
 ghost use Rattle.tags.specs.declared.token.Token.{Token};
 ghost use Rattle.element.specs.Holding.{fixed_of, IsSoundLane};
 ghost use Rattle.element.specs.Requests.{held_back};
@@ -126,12 +126,13 @@ fn grant_all<C: Instructions, A: Allocator + Clone, L: Log>(
     ensures sound { IsSoundLane lane.old.program lane.old.held → IsSoundLane lane.new.program lane.new.held }
     ensures turns { (granted : List Token) × Takes (MayGrant ordinary) lane.old.program lane.old.steps 0 lane.old.held sent.old.items granted
         lane.new.held sent.new.items
-        × (log.new.events.items ≡ logged L.KEEPS_EVENTS log.old.events.items (by lane.old.held.part.shape.element granted))
-        × IfErr result (λ halt. HaltsTaking (MayGrant ordinary (length granted)) lane.old.program lane.old.steps false lane.new.held (Some halt)) }
+        × (log.new.events.items ≡ logged L.KEEPS_EVENTS log.old.events.items (by lane.old.held.part.shape.element granted)) }
     ensures count { IfOk result (λ n. lane.new.held.made ≡ lane.old.held.made + n) }
     ensures few { IfOk result (λ n. n ≤ turn) }
     ensures none { IfOk result (λ n. GrantsNone (ordinary + n) lane.new.held ⊎ (n ≡ turn)) }
     ensures fewer { IfErr result (λ halt. lane.new.held.made < lane.old.held.made + turn) }
+    ensures halts { IfErr result (λ halt. HaltsTaking (MayGrant ordinary (lane.new.held.made - lane.old.held.made)) lane.old.program lane.old.steps
+        false lane.new.held (Some halt)) }
     ensures fixed { fixed_of lane.new ≡ fixed_of lane.old }
 {
     'grants: for granted in 0..turn {

@@ -524,9 +524,23 @@ pub fn run_counted<
         (size machine.entry.state.setting) inputs machine.entry.state.setting.steps false G.may_stop result.report }
     ensures truth { ReportsRounds true G.may_stop machine.entry result.rounds result.report }
 {
+    run_counted_taking(machine, rt, gate, Take::Oldest)
+}
+
+/// As `run_counted`, in the given order of the tokens, as `run_taking`.
+pub fn run_counted_taking<
+    R: Threads + Wait + Sync,
+    C: MainCode + Sync,
+    A: Allocator + Clone + Send,
+    G: Gate + Sync,
+>(machine: Machine<'_, C, A>, rt: &R, gate: &G, take: Take) -> Counted<A>
+    ensures shows { (inputs : List ℤ) → Began inputs machine.entry.state machine.entry.events → ShowsInOrder machine.entry.state.setting.program
+        (size machine.entry.state.setting) inputs machine.entry.state.setting.steps false G.may_stop result.report }
+    ensures truth { ReportsTaking take true G.may_stop machine.entry result.rounds result.report }
+{
     let way = Way {
         threading: Threading::Together,
-        take: Take::Oldest,
+        take,
     };
     run_listed(machine, rt, way, gate)
 }

@@ -1,4 +1,4 @@
-use Rattle.std.proofs.Common.{◌≡◌, refl, sym, ◌∙◌, ap, subst, false, ◌+◌, ◌<◌, ◌++◌, ◌∷◌, [], inl, inr, length, Some, arith, length-append}
+use Rattle.std.proofs.Common.{◌≡◌, refl, sym, ◌∙◌, ap, subst, false, ◌+◌, ◌-◌, ◌<◌, ◌++◌, ◌∷◌, [], inl, inr, length, Some, arith, length-append}
 use Rattle.element.specs.Holding.{Holding, Fixed}
 use Rattle.element.specs.Requests.{held_back}
 use Rattle.schedule.proofs.Playing.{logged_none}
@@ -57,21 +57,11 @@ pub returns-in-Err-clause-turns : goal.returns-in-Err-clause-turns
 returns-in-Err-clause-turns g c =
     let inv = c.grants.invariant in
     let so_far = inv.turns in
-    let start = c.args.lane.now in
-    let old = c.grants.lane.held in
-    let next = c.grant.new.lane.held in
-    let from = c.from.ensures in
-    let count = so_far.3 in
-    let place : c.args.ordinary + c.from.result ≡ c.args.ordinary + length so_far.0 = omega arith in
-    let few = subst (λ n. AreFew n old) place (c.are_few.ensures.yes c.if-not-are_few.false) in
-    let few_now = subst (λ (h : Holding). AreFew (c.args.ordinary + length so_far.0) h) (sym c.in-Err.ensures.stays.held) few in (
+    let start = c.args.lane.now in (
       so_far.0,
-      take_same (MayGrant c.args.ordinary) start.program start.steps start.held old next c.args.sent.now.items so_far.0
+      take_same (MayGrant c.args.ordinary) start.program start.steps start.held c.grants.lane.held c.grant.new.lane.held c.args.sent.now.items so_far.0
           c.grants.sent.items c.grant.new.sent.items c.in-Err.ensures.stays so_far.1,
       c.in-Err.ensures.unnoted ∙ so_far.2,
-      halts_start (MayGrant c.args.ordinary (length so_far.0)) start c.grants.lane next (Some c.in-Err.halt) inv.fixed
-          (halts_weaker (λ h pick. pick < held_back h.queue) (MayGrant c.args.ordinary (length so_far.0)) c.grants.lane.program c.grants.lane.steps false
-          next (Some c.in-Err.halt) (λ pick low. (low, few_now)) c.in-Err.ensures.halts),
     )
 
 pub returns-in-Err-clause-fewer : goal.returns-in-Err-clause-fewer
@@ -81,3 +71,21 @@ returns-in-Err-clause-fewer g c =
     let low = c.grants-test.true in
     let same = ap (λ (h : Holding). h.made) c.in-Err.ensures.stays.held in
     omega arith
+
+pub returns-in-Err-clause-halts : goal.returns-in-Err-clause-halts
+returns-in-Err-clause-halts g c =
+    let inv = c.grants.invariant in
+    let start = c.args.lane.now in
+    let old = c.grants.lane.held in
+    let next = c.grant.new.lane.held in
+    let stays = c.in-Err.ensures.stays.held in
+    let same = ap (λ (h : Holding). h.made) stays in
+    let made = inv.made in
+    let from = c.from.ensures in
+    let place : c.args.ordinary + c.from.result ≡ c.args.ordinary + (next.made - start.held.made) = omega arith in
+    let few = subst (λ n. AreFew n old) place (c.are_few.ensures.yes c.if-not-are_few.false) in
+    let few_now = subst (λ (h : Holding). AreFew (c.args.ordinary + (next.made - start.held.made)) h) (sym stays) few in
+    let may = MayGrant c.args.ordinary (next.made - start.held.made) in
+    halts_start may start c.grants.lane next (Some c.in-Err.halt) inv.fixed
+    (halts_weaker (λ h pick. pick < held_back h.queue) may c.grants.lane.program c.grants.lane.steps false next (Some c.in-Err.halt)
+    (λ pick low. (low, few_now)) c.in-Err.ensures.halts)

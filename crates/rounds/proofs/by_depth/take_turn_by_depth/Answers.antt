@@ -1,6 +1,6 @@
-use Rattle.std.proofs.Common.{ap, false, ◌+◌, ◌-◌, ◌++◌, length, arith, length-append}
+use Rattle.std.proofs.Common.{◌≡◌, ap, subst, false, Some, ◌+◌, ◌-◌, ◌++◌, length, arith, length-append}
 use Rattle.element.specs.Holding.{Fixed}
-use Rattle.rounds.specs.ByDepth.{MayGrant, MayTake}
+use Rattle.rounds.specs.ByDepth.{MayGrant, MayTake, HaltsTaking}
 use Rattle.rounds.proofs.Taking.{grown_any, turns_granted, turns_all, whole_all, whole_halting, noted_both}
 use Rattle.rounds.proofs.by_depth.take_turn_by_depth.Goals as goal
 
@@ -39,10 +39,12 @@ returns-in-Err-clause-turns g c =
     let mid = c.grant_all.new.lane in
     let granted = c.grant_all.ensures.turns in
     let grown = grown_any (MayGrant c.args.ordinary) start.program start.steps 0 start.held c.args.sent.now.items granted.0 mid.held c.grant_all.new.sent.items granted.1 in
-    let few = c.in-Err.ensures.fewer in (
+    let few = c.in-Err.ensures.fewer in
+    let long : mid.held.made - start.held.made ≡ length granted.0 = omega (arith, grown) in
+    let halts = subst (λ k. HaltsTaking (MayGrant c.args.ordinary k) start.program start.steps false mid.held (Some c.in-Err.halt)) long c.in-Err.ensures.halts in (
       granted.0,
       turns_granted start.program start.steps c.args.turn c.args.ordinary false start.held mid.held c.args.sent.now.items granted.0 c.grant_all.new.sent.items
-          c.in-Err.halt granted.1 granted.3,
+          c.in-Err.halt granted.1 halts,
       granted.2,
       omega (arith, grown, few),
     )
@@ -50,6 +52,6 @@ returns-in-Err-clause-turns g c =
 pub returns-in-Err-clause-whole : goal.returns-in-Err-clause-whole
 returns-in-Err-clause-whole g c =
     let start = c.args.lane.now in
-    let granted = c.grant_all.ensures.turns in
-    whole_halting (MayGrant c.args.ordinary (length granted.0)) start.program start.steps c.args.turn start.held c.grant_all.new.lane.held c.in-Err.halt
-    granted.3 c.in-Err.ensures.fewer
+    let new = c.grant_all.new.lane.held in
+    whole_halting (MayGrant c.args.ordinary (new.made - start.held.made)) start.program start.steps c.args.turn start.held new c.in-Err.halt
+    c.in-Err.ensures.halts c.in-Err.ensures.fewer
