@@ -267,7 +267,7 @@ module _ {C A L : Type 0} where
     pub round : RoundTaking order g keeps_events may_stop (lanes_held olds) (map turned_of news)
     round = to_taking order g ordinary keeps_events may_stop olds news count between.sent between.noted placed is each
 
-    any : AnyRound g keeps_events may_stop (lanes_held olds) (map turned_of news)
+    abbrev any : AnyRound g keeps_events may_stop (lanes_held olds) (map turned_of news)
     any = any_round order g keeps_events may_stop (lanes_held olds) (map turned_of news) round
 
     standing : Standing g (lanes_held olds) []

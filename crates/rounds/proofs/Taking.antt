@@ -169,6 +169,7 @@ any_oldest g keeps_events may_stop (h ∷ hs) (t ∷ ts) (turn, rest) =
 
 made_oldest : (g : Setting) (keeps_events may_stop : Bool) (hs : List Holding) (ts : List Turned) (round : Round g keeps_events may_stop hs ts)
     → made_any g keeps_events may_stop hs ts (any_oldest g keeps_events may_stop hs ts round) ≡ made_in g keeps_events may_stop hs ts round
+unfolding any_oldest any_turn
 made_oldest g keeps_events may_stop [] [] round = refl
 made_oldest g keeps_events may_stop [] (t ∷ ts) round = absurd round
 made_oldest g keeps_events may_stop (h ∷ hs) [] round = absurd round
@@ -189,6 +190,7 @@ any_round Depth g keeps_events may_stop (h ∷ hs) (t ∷ ts) (turn, rest) = (
 pub made_same_any : (order : Take) (g : Setting) (keeps_events may_stop : Bool) (hs : List Holding) (ts : List Turned)
     (round : RoundTaking order g keeps_events may_stop hs ts)
     → made_any g keeps_events may_stop hs ts (any_round order g keeps_events may_stop hs ts round) ≡ made_taking order g keeps_events may_stop hs ts round
+unfolding any_round any_depth
 made_same_any Oldest g keeps_events may_stop hs ts round = made_oldest g keeps_events may_stop hs ts round
 made_same_any Depth g keeps_events may_stop [] [] round = refl
 made_same_any Depth g keeps_events may_stop [] (t ∷ ts) round = absurd round
@@ -307,8 +309,8 @@ turns_all start mid turn ordinary n new before granted sent later after halt fix
     by_end : GrantsNone (ordinary + n) mid.held ⊎ (n ≡ turn) → length granted ≡ n → Takes MayTake start.program start.steps 0 mid.held sent later new after
         → (GrantsNone (ordinary + length granted) mid.held × HaltsTaking (MayTake 0) start.program start.steps false new halt)
         ⊎ ((later ≡ []) × EndsGranting (MayGrant ordinary (length granted)) start.program start.steps turn false start.held new halt)
-    by_end (inl no) long takes = inl (
-      subst (λ (k : ℕ). GrantsNone (ordinary + k) mid.held) (sym long) no,
+    by_end (inl ended) long takes = inl (
+      subst (λ (k : ℕ). GrantsNone (ordinary + k) mid.held) (sym long) ended,
       halts_start (MayTake 0) start mid new halt fixed halts,
     )
     by_end (inr all) long takes =

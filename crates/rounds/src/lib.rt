@@ -9,5 +9,7 @@ mod rounds;
 mod turn;
 
 pub use gate::{Gate, Open};
-pub use rounds::{Counted, run, run_counted, run_counted_taking, run_quietly, run_quietly_taking, run_taking};
+pub use rounds::{
+    Counted, run, run_counted, run_counted_taking, run_quietly, run_quietly_taking, run_taking,
+};
 pub use turn::take_turn;

@@ -132,6 +132,7 @@ fn make_turns<
         turners,
         threads,
         &|_: usize, turner: &mut Turner<'_, C, A, L>| -> ()
+            requires { ordinary < 2 ^ 80 }
             ensures { TookTaking way.take turn ordinary L.KEEPS_EVENTS G.may_stop turner.old turner.new }
         { make_turn_taking(turner, gate, turn, way.take, ordinary) },
     );

@@ -221,24 +221,6 @@ fn make_turn_by_depth<C: Instructions, A: Allocator + Clone, L: Log, G: Gate>(
     turner.halt = take_turn_by_depth(lane, order, sent, log, turn, ordinary);
 }
 
-// The same where element 0 holds requests for frames back, and the others hold none.
-fn make_turn_holding<C: Instructions, A: Allocator + Clone, L: Log, G: Gate>(
-    turner: &mut Turner<'_, C, A, L>,
-    gate: &G,
-    turn: u64,
-    ordinary: u128,
-)
-    requires { ordinary < 2 ^ 80 }
-    ensures first { turner.old.lane.held.part.shape.element ≡ 0 → TookTurnByDepth turn ordinary L.KEEPS_EVENTS G.may_stop turner.old turner.new }
-    ensures others { (turner.old.lane.held.part.shape.element ≡ 0 → ⊥) → TookTurn turn L.KEEPS_EVENTS G.may_stop turner.old turner.new }
-{
-    if turner.lane.element() == 0 {
-        make_turn_by_depth(turner, gate, turn, ordinary);
-    } else {
-        make_turn(turner, gate, turn);
-    }
-}
-
 /// The element asks the gate, and takes its turn in the given order of its tokens. There are `ordinary` tokens in all that element 0 does
 /// not hold back, if it holds any back in this order.
 pub fn make_turn_taking<C: Instructions, A: Allocator + Clone, L: Log, G: Gate>(
@@ -253,6 +235,12 @@ pub fn make_turn_taking<C: Instructions, A: Allocator + Clone, L: Log, G: Gate>(
 {
     match take {
         Take::Oldest => make_turn(turner, gate, turn),
-        Take::Depth => make_turn_holding(turner, gate, turn, ordinary),
+        Take::Depth => {
+            if turner.lane.element() == 0 {
+                make_turn_by_depth(turner, gate, turn, ordinary);
+            } else {
+                make_turn(turner, gate, turn);
+            }
+        }
     }
 }

@@ -1,4 +1,5 @@
-use Rattle.std.proofs.Common.{◌≡◌, refl, sym, ◌∙◌, ap, subst, false, ◌+◌, ◌-◌, ◌<◌, ◌++◌, ◌∷◌, [], inl, inr, length, Some, arith, length-append}
+use Rattle.std.proofs.Common.{◌≡◌, refl, sym, ◌∙◌, ap, subst, false, ◌+◌, ◌-◌, ◌<◌, ◌++◌, ◌∷◌, List, [], inl, inr, length, Some, arith, length-append}
+use Rattle.tags.specs.declared.token.Token.{Token}
 use Rattle.element.specs.Holding.{Holding, Fixed}
 use Rattle.element.specs.Requests.{held_back}
 use Rattle.schedule.proofs.Playing.{logged_none}
@@ -45,7 +46,8 @@ grants-preserved g c =
     }
 
 pub returns-then-held-eq0-clause-none : goal.returns-then-held-eq0-clause-none
-returns-then-held-eq0-clause-none g c = inl (inl (sym c.requests_before-held.ensures.exact ∙ c.if-held-eq0.true))
+returns-then-held-eq0-clause-none g c = inl (inl (ap (λ (q : List Token). held_back q) (sym c.queue.ensures) ∙ sym c.requests_before-held.ensures.exact
+    ∙ c.if-held-eq0.true))
 
 pub returns-then-not-are_few-clause-none : goal.returns-then-not-are_few-clause-none
 returns-then-not-are_few-clause-none g c =

@@ -1,6 +1,7 @@
 use Rattle.std.proofs.Common.{◌≡◌, refl, sym, ◌∙◌, ap, subst, false, ℕ, ◌+◌, ◌<◌, ◌++◌, ◌∷◌, List, [], length, Some, arith, length-append}
 use Rattle.tags.specs.declared.token.Token.{Token}
 use Rattle.element.specs.Holding.{Holding, Fixed}
+use Rattle.element.specs.Requests.{held_back}
 use Rattle.schedule.proofs.Playing.{logged_none}
 use Rattle.rounds.specs.ByDepth.{MayTake}
 use Rattle.rounds.proofs.Turning.{noted_more}
@@ -25,11 +26,14 @@ others-preserved g c =
     let next = c.take.new.lane in
     let did = c.in-Ok.ensures.did in
     let does = did.0 in
-    let held = c.requests_before-requests.ensures.exact in
+    let queue = c.queue.ensures in
+    let held : c.requests_before-requests.result ≡ held_back old.held.queue = c.requests_before-requests.ensures.exact ∙ ap (λ (q : List Token). held_back q) queue in
+    let all : length c.queue.result.now.items ≡ length old.held.queue = ap (λ (q : List Token). length q) queue in
     let within = c.requests_before-requests.ensures.within in
     let other = c.if-requests-len.false in
     let long : c.len.result ≡ length old.held.queue = c.len.ensures ∙ ap (λ (q : List Token). length q) c.queue-in-others.ensures in
     let low : c.requests_before-requests.result < length old.held.queue = omega arith in
+    let other_held : held_back old.held.queue < length old.held.queue = omega (arith, held, low) in
     record {
       sound = λ _. c.in-Ok.ensures.sound;
       fixed = c.take.ensures.fixed ∙ inv.fixed;
@@ -37,7 +41,7 @@ others-preserved g c =
       turns = (
         so_far.0 ++ does.token ∷ [],
         take_more MayTake start old next c.args.sent.now.items so_far.0 c.others.sent.items c.take.new.sent.items c.requests_before-requests.result inv.fixed
-            c.take.ensures.fixed c.in-Ok.ensures.sound c.in-Ok.ensures.few (held, low) does so_far.1,
+            c.take.ensures.fixed c.in-Ok.ensures.sound c.in-Ok.ensures.few (held, other_held) does so_far.1,
         noted_more g.L.Log.KEEPS_EVENTS c.args.log.now.events.items c.others.log.events.items c.others.log.events.items c.take.new.log.events.items
             old.held.part.shape.element start.held.part.shape.element so_far.0 does.token does.token so_far.2 refl did.1
             (ap (λ (f : Fixed). f.shape.element) inv.fixed) refl,
@@ -75,12 +79,15 @@ returns-in-Err-clause-halts g c =
     let old = c.others.lane in
     let next = c.take.new.lane.held in
     let at = c.requests_before-requests.result in
-    let held = c.requests_before-requests.ensures.exact in
+    let queue = c.queue.ensures in
+    let held : at ≡ held_back old.held.queue = c.requests_before-requests.ensures.exact ∙ ap (λ (q : List Token). held_back q) queue in
+    let all : length c.queue.result.now.items ≡ length old.held.queue = ap (λ (q : List Token). length q) queue in
     let within = c.requests_before-requests.ensures.within in
     let other = c.if-requests-len.false in
     let long : c.len.result ≡ length old.held.queue = c.len.ensures ∙ ap (λ (q : List Token). length q) c.queue-in-others.ensures in
     let low : at < length old.held.queue = omega arith in
-    let may : MayTake 0 next at = subst (λ (h : Holding). MayTake 0 h at) (sym c.in-Err.ensures.stays.held) (held, low) in
+    let other_held : held_back old.held.queue < length old.held.queue = omega (arith, held, low) in
+    let may : MayTake 0 next at = subst (λ (h : Holding). MayTake 0 h at) (sym c.in-Err.ensures.stays.held) (held, other_held) in
     halts_start (MayTake 0) c.args.lane.now old next (Some c.in-Err.halt) c.others.invariant.fixed
     (halts_weaker (λ h pick. pick ≡ at) (MayTake 0) old.program old.steps false next (Some c.in-Err.halt)
     (λ pick is. subst (λ (n : ℕ). MayTake 0 next n) (sym is) may) c.in-Err.ensures.halts)

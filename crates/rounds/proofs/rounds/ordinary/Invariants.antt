@@ -8,4 +8,5 @@ abbrev pub invariant-loop-place : goal.invariant-loop-place
 invariant-loop-place g l = record {
   exact : l.tokens + length (tokens_in (drop l.place (lanes_held l.turners))) ≡ others (lanes_held l.turners);
   few : l.tokens ≤ l.place * 2 ^ 64;
+  within : l.place ≤ length l.turners;
 }

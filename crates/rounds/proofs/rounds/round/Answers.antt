@@ -12,7 +12,7 @@ use Rattle.element.specs.Holding.{Fixed}
 use Rattle.rounds.specs.declared.turn.Turner.{Turner}
 use Rattle.rounds.specs.Rounds.{lanes_held, lanes_fixed, halts_in, tokens_sent}
 use Rattle.rounds.specs.Counted.{IsWhy}
-use Rattle.rounds.proofs.Closing.{at_all, closed_round, refused_delivering}
+use Rattle.rounds.proofs.Closing.{at_all, closed_round, refused_round, refused_delivering}
 use Rattle.rounds.proofs.rounds.round.Goals as goal
 
 pub deliver_all-requires-clause-at : goal.deliver_all-requires-clause-at
@@ -23,6 +23,14 @@ deliver_all-requires-clause-at g c =
     subst (λ (n : ℕ). AllFrom (IsAt n) 0 (lanes_held new)) (sym (ap (λ (x : Setting). x.elements) c.make_whole_round.ensures.setting))
     (at_all {C = g.row.C.Denot} {A = g.row.A.Denot} {L = g.row.L.Denot} c.args.way.take s g.L.Log.KEEPS_EVENTS g.G.Gate.may_stop c.args.turners.now.items new
     c.args.setup.now.log.events.items c.make_whole_round.new.setup.log.events.items (c.make_whole_round.new.tokens.items ++ tokens_sent new) made)
+
+pub returns-then-not-all-clause-rounds : goal.returns-then-not-all-clause-rounds
+returns-then-not-all-clause-rounds g c =
+    let s : Setting = setting_in g.C.Instructions.program g.C.Instructions.width c.args.setup.now.shape in
+    let new = c.make_whole_round.new.turners.items in
+    refused_round {C = g.row.C.Denot} {A = g.row.A.Denot} {L = g.row.L.Denot} c.args.way.take s g.L.Log.KEEPS_EVENTS g.G.Gate.may_stop
+    c.args.turners.now.items new c.args.setup.now.log.events.items c.make_whole_round.new.setup.log.events.items
+    (c.make_whole_round.new.tokens.items ++ tokens_sent new) c.in_ok-all.ensures.made
 
 pub returns-in-Ok-clause-rounds : goal.returns-in-Ok-clause-rounds
 returns-in-Ok-clause-rounds g c =

@@ -16,16 +16,16 @@ returns-then-not-may_go_on g c =
 pub returns : goal.returns
 returns g c =
     let old = c.args.turner.now.lane in
-    let new = c.take_turn_by_depth.new in
-    let turns = c.take_turn_by_depth.ensures.turns in
+    let new = c.take_turn_by_depth-turner.new in
+    let turns = c.take_turn_by_depth-turner.ensures.turns in
     record {
       takes = record {
         taken = turns.0;
         turns = turns_stopping old.program old.steps c.args.turn c.args.ordinary g.G.Gate.may_stop old.held c.args.turner.now.sent.items turns.0
-            new.lane.held new.sent.items c.take_turn_by_depth.result turns.1;
+            new.lane.held new.sent.items c.take_turn_by_depth-turner.result turns.1;
         noted = turns.2;
         few = turns.3;
-        whole = c.take_turn_by_depth.ensures.whole;
+        whole = c.take_turn_by_depth-turner.ensures.whole;
       };
-      fixed = c.take_turn_by_depth.ensures.fixed;
+      fixed = c.take_turn_by_depth-turner.ensures.fixed;
     }
