@@ -32,8 +32,8 @@ abbrev pub IsWhy : List Holding → List (Option Halt) → Option Halt → Type 
 IsWhy lanes halts None = NoneHalts halts × (0 < length (tokens_in lanes))
 IsWhy lanes halts (Some halt) = IsFirst halts halt ⊎ (NoneHalts halts × (tokens_in lanes ≡ []) × (halt ≡ Halt.NoToken))
 
--- ONE ROUND. Each element makes its turn, in this order of its tokens; then the tokens for others are delivered, those of one element after those of another. It made these
--- events, and after it the run halts so, if it does: where memory is refused while tokens are delivered, it halts for that.
+-- ONE ROUND. Each element makes its turn, in this order of its tokens; then the tokens for others are delivered, those of one element after those of
+-- another. It made these events, and after it the run halts so, if it does: where memory is refused while tokens are delivered, it halts for that.
 pub record MakesRound (order : Take) (g : Setting) (may_stop : Bool) (old new : List Holding) (made : Events) (why : Option Halt) : Type 0 where
   -- whether the elements note their events
   pub keeps_events : Bool
@@ -51,8 +51,9 @@ MakesRounds order g may_stop (suc n) old new made why =
     × MakesRound order g may_stop mid new now why
     × (made ≡ before ++ now)
 
--- The run from here made exactly so many rounds, in this order of the tokens, and halted after the last, unless memory was refused between two rounds. The report is of the machine as it
--- is then, with these events after those that were noted; or, where its lists were refused, of the machine before its first event.
+-- The run from here made exactly so many rounds, in this order of the tokens, and halted after the last, unless memory was refused between two rounds.
+-- The report is of the machine as it is then, with these events after those that were noted; or, where its lists were refused, of the machine before its
+-- first event.
 pub record ReportsTaking (order : Take) (keeps_events may_stop : Bool) (start : SoFar) (rounds : ℕ) (r : Report) : Type 0 where
   pub last : List Holding
   pub made : Events
@@ -62,6 +63,6 @@ pub record ReportsTaking (order : Take) (keeps_events may_stop : Bool) (start : 
   pub halted : (why ≡ Some halt) ⊎ ((why ≡ None) × (halt ≡ Halt.Memory))
   pub reported : IsReportOf (record { state = record { setting = start.state.setting; lanes = last }; events = logged keeps_events start.events made }) halt r
 
--- each element takes its oldest tokens
+-- in which each element takes its oldest tokens
 abbrev pub ReportsRounds : Bool → Bool → SoFar → ℕ → Report → Type 0
 ReportsRounds keeps_events may_stop start rounds r = ReportsTaking Oldest keeps_events may_stop start rounds r

@@ -495,7 +495,8 @@ pub fn run<
 
 /// As `run`, in the given order of the tokens. With `Take::Depth` each element takes its oldest tokens, but element 0 holds back the requests
 /// for frames that its queue begins with: at the beginning of its turn it grants some of them where few other tokens are left in the machine,
-/// and then it takes its oldest other tokens.
+/// and then it takes its oldest other tokens. Which of them it grants is a choice, and the same in each run; where there is no room to note it,
+/// memory is refused.
 pub fn run_taking<
     R: Threads + Wait + Sync,
     C: MainCode + Sync,
