@@ -27,7 +27,8 @@ use Rattle.rounds.specs.declared.turn.Turner.{Turner}
 use Rattle.schedule.specs.Steps.{logged}
 use Rattle.rounds.specs.Turns.{all_sent, arriving}
 use Rattle.rounds.specs.Rounds.{lanes_held, lanes_fixed, tokens_sent, events_noted, halts_in, IsBetween, IsHalted, GoesOn, Rounds, Leads, MadeRound, ShowsOn}
-use Rattle.rounds.specs.Counted.{answers, IsWhy, MakesRounds, ReportsRounds}
+use Rattle.rounds.specs.Counted.{answers, IsWhy, MakesRounds, ReportsTaking}
+use Rattle.schedule.specs.declared.take.Take.{Take}
 use Rattle.schedule.proofs.Playing.{logged_twice}
 use Rattle.rounds.proofs.Counting.{one_round, makes_more, reports_rounds}
 
@@ -47,8 +48,17 @@ module _ {C A L : Type 0} where
       let some : 0 < g.elements = between.sound.setting.some in
       omega (arith, count, one, two, some)
 
-  module _ (g : Setting) (keeps_events may_stop : Bool) (olds news : List (Turner C A L)) (before after : Events) (tokens : List Token)
-      (made : MadeRound g keeps_events may_stop olds before news after tokens) where
+  -- there are at most 16
+  pub few_turners : (g : Setting) (ts : List (Turner C A L)) → IsBetween g ts → length ts ≤ 16
+  few_turners g ts between =
+      let count : length (delivered [] (lanes_held ts)) ≡ g.elements = between.sound.count in
+      let one = length-map (lanes_held ts) (λ (h : Holding). queued h []) in
+      let two = length-map ts (λ (t : Turner C A L). held_of t.lane) in
+      let few = between.sound.setting.few in
+      omega (arith, count, one, two, few)
+
+  module _ (order : Take) (g : Setting) (keeps_events may_stop : Bool) (olds news : List (Turner C A L)) (before after : Events) (tokens : List Token)
+      (made : MadeRound order g keeps_events may_stop olds before news after tokens) where
     pub count_all : length news ≡ g.elements
     count_all =
         let count : length (delivered tokens (lanes_held news)) ≡ g.elements = made.sound.count in
@@ -62,9 +72,9 @@ module _ {C A L : Type 0} where
 
     -- it is a round, whatever tokens were delivered
     makes_one : (last : List (Turner C A L)) (rest : List Token) (halt : Option Halt) → delivered rest (lanes_held last) ≡ delivered tokens (lanes_held news)
-        → IsWhy (delivered rest (lanes_held last)) (answers made.turned) halt ⊎ (halt ≡ Some Halt.Memory) → MakesRounds g may_stop 1 (lanes_held olds)
+        → IsWhy (delivered rest (lanes_held last)) (answers made.turned) halt ⊎ (halt ≡ Some Halt.Memory) → MakesRounds order g may_stop 1 (lanes_held olds)
         (delivered rest (lanes_held last)) made.made halt
-    makes_one last rest halt handed halts = one_round g may_stop (lanes_held olds) (delivered rest (lanes_held last)) made.made halt (record {
+    makes_one last rest halt handed halts = one_round order g may_stop (lanes_held olds) (delivered rest (lanes_held last)) made.made halt (record {
       keeps_events = keeps_events;
       turned = made.turned;
       round = made.round;
@@ -75,7 +85,7 @@ module _ {C A L : Type 0} where
     })
 
     -- memory was refused
-    pub refused_round : Rounds g keeps_events may_stop 1 olds before news after (Some Halt.Memory)
+    pub refused_round : Rounds order g keeps_events may_stop 1 olds before news after (Some Halt.Memory)
     refused_round = record {
       rest = tokens;
       made = made.made;
@@ -97,7 +107,7 @@ module _ {C A L : Type 0} where
       leads_last inputs evs b = subst (λ (s : State). Began inputs s (evs ++ made.made)) same (made.leads inputs evs b)
 
       -- memory was refused while tokens were delivered
-      pub refused_delivering : Rounds g keeps_events may_stop 1 olds before last after (Some Halt.Memory)
+      pub refused_delivering : Rounds order g keeps_events may_stop 1 olds before last after (Some Halt.Memory)
       refused_delivering = record {
         rest = rest;
         made = made.made;
@@ -110,7 +120,7 @@ module _ {C A L : Type 0} where
 
       pub closed_round : All (RunsAs g) (lanes_fixed last) → rest ≡ [] → tokens_sent last ≡ [] → events_noted last ≡ [] → halts_in last
           ≡ halts_in news → (halt : Option Halt) → IsWhy (lanes_held last) (halts_in last) halt
-          → Rounds g keeps_events may_stop 1 olds before last after halt
+          → Rounds order g keeps_events may_stop 1 olds before last after halt
       closed_round runs none sent noted halts halt why = record {
         rest = rest;
         made = made.made;
@@ -154,32 +164,32 @@ module _ {C A L : Type 0} where
   leads_none g ts = λ inputs evs b. subst (λ (l : Events). Began inputs (arriving g (lanes_held ts) []) l) (sym (append-nil evs)) b
 
   -- one more round after others
-  pub rounds_twice : (g now : Setting) (setting : now ≡ g) (keeps_events may_stop : Bool) (n : ℕ) (olds mids news : List (Turner C A L))
+  pub rounds_twice : (order : Take) (g now : Setting) (setting : now ≡ g) (keeps_events may_stop : Bool) (n : ℕ) (olds mids news : List (Turner C A L))
       (before mid after made : Events) (halt : Option Halt)
-      → mid ≡ logged keeps_events before made → Leads g olds mids [] made → MakesRounds g may_stop n (lanes_held olds) (lanes_held mids) made None
-      → Rounds now keeps_events may_stop 1 mids mid news after halt
-      → Rounds g keeps_events may_stop (n + 1) olds before news after halt
-  rounds_twice g now setting keeps_events may_stop n olds mids news before mid after made halt noted leads makes next = subst
-      (λ (x : Setting). Rounds x keeps_events may_stop (n + 1) olds before news after halt) setting (record {
+      → mid ≡ logged keeps_events before made → Leads g olds mids [] made → MakesRounds order g may_stop n (lanes_held olds) (lanes_held mids) made None
+      → Rounds order now keeps_events may_stop 1 mids mid news after halt
+      → Rounds order g keeps_events may_stop (n + 1) olds before news after halt
+  rounds_twice order g now setting keeps_events may_stop n olds mids news before mid after made halt noted leads makes next = subst
+      (λ (x : Setting). Rounds order x keeps_events may_stop (n + 1) olds before news after halt) setting (record {
         rest = next.rest;
         made = made ++ next.made;
         goes = next.goes;
         noted = next.noted ∙ ap (λ (l : Events). logged keeps_events l next.made) noted ∙ logged_twice keeps_events before made next.made;
         leads = λ inputs evs b. subst (λ (l : Events). Began inputs (arriving now (lanes_held news) next.rest) l) (append_assoc evs made next.made)
             (next.leads inputs (evs ++ made) (subst (λ (x : Setting). Leads x olds mids [] made) (sym setting) leads inputs evs b));
-        makes = makes_more now may_stop n (lanes_held olds) (lanes_held mids) (delivered next.rest (lanes_held news)) made next.made halt
-            (subst (λ (x : Setting). MakesRounds x may_stop n (lanes_held olds) (lanes_held mids) made None) (sym setting) makes) next.makes;
+        makes = makes_more order now may_stop n (lanes_held olds) (lanes_held mids) (delivered next.rest (lanes_held news)) made next.made halt
+            (subst (λ (x : Setting). MakesRounds order x may_stop n (lanes_held olds) (lanes_held mids) made None) (sym setting) makes) next.makes;
       })
 
   -- what holds between rounds, after those in which nothing halted
-  pub leads_on : (g : Setting) (keeps_events may_stop : Bool) (n : ℕ) (olds news : List (Turner C A L)) (before after : Events)
-      (rounds : Rounds g keeps_events may_stop n olds before news after None) → Leads g olds news [] rounds.made
-  leads_on g keeps_events may_stop n olds news before after rounds = subst (λ (l : List Token). Leads g olds news l rounds.made) rounds.goes.1 rounds.leads
+  pub leads_on : (order : Take) (g : Setting) (keeps_events may_stop : Bool) (n : ℕ) (olds news : List (Turner C A L)) (before after : Events)
+      (rounds : Rounds order g keeps_events may_stop n olds before news after None) → Leads g olds news [] rounds.made
+  leads_on order g keeps_events may_stop n olds news before after rounds = subst (λ (l : List Token). Leads g olds news l rounds.made) rounds.goes.1 rounds.leads
 
-  pub makes_on : (g : Setting) (keeps_events may_stop : Bool) (n : ℕ) (olds news : List (Turner C A L)) (before after : Events)
-      (rounds : Rounds g keeps_events may_stop n olds before news after None)
-      → MakesRounds g may_stop n (lanes_held olds) (lanes_held news) rounds.made None
-  makes_on g keeps_events may_stop n olds news before after rounds = subst (λ (l : List Holding). MakesRounds g may_stop n (lanes_held olds) l rounds.made None)
+  pub makes_on : (order : Take) (g : Setting) (keeps_events may_stop : Bool) (n : ℕ) (olds news : List (Turner C A L)) (before after : Events)
+      (rounds : Rounds order g keeps_events may_stop n olds before news after None)
+      → MakesRounds order g may_stop n (lanes_held olds) (lanes_held news) rounds.made None
+  makes_on order g keeps_events may_stop n olds news before after rounds = subst (λ (l : List Holding). MakesRounds order g may_stop n (lanes_held olds) l rounds.made None)
       (ap (λ (l : List Token). delivered l (lanes_held news)) rounds.goes.1 ∙ delivered_none (lanes_held news)) rounds.makes
 
 pub map_same : {X : Type 0} (xs : List X) → map (λ y. y) xs ≡ xs
@@ -269,8 +279,8 @@ module _ {C A L : Type 0} where
     noted = noted;
   }
 
-  module _ (g now : Setting) (setting : now ≡ g) (keeps_events may_stop : Bool) (n : ℕ) (olds news : List (Turner C A L)) (before after : Events)
-      (halt : Halt) (rounds : Rounds g keeps_events may_stop n olds before news after (Some halt)) (raw : List Holding) (lanes : raw ≡ lanes_held news) where
+  module _ (order : Take) (g now : Setting) (setting : now ≡ g) (keeps_events may_stop : Bool) (n : ℕ) (olds news : List (Turner C A L)) (before after : Events)
+      (halt : Halt) (rounds : Rounds order g keeps_events may_stop n olds before news after (Some halt)) (raw : List Holding) (lanes : raw ≡ lanes_held news) where
     same_state : arriving g (lanes_held news) rounds.rest ≡ arriving now raw rounds.rest
     same_state = ap (λ (x : Setting). arriving x (lanes_held news) rounds.rest) (sym setting)
         ∙ ap (λ (l : List Holding). arriving now l rounds.rest) (sym lanes)
@@ -297,10 +307,10 @@ module _ {C A L : Type 0} where
 
     pub end_reports : (start : List Holding) → lanes_held olds ≡ start → (r : Report)
         → IsReportOf (record { state = record { setting = now; lanes = raw }; events = after }) halt r
-        → ReportsRounds keeps_events may_stop (record { state = record { setting = g; lanes = start }; events = before }) n r
-    end_reports start is r reported = reports_rounds keeps_events may_stop g start raw rounds.rest n before after rounds.made halt r
-        (subst (λ (l : List Holding). MakesRounds g may_stop n l (delivered rounds.rest raw) rounds.made (Some halt)) is
-        (subst (λ (l : List Holding). MakesRounds g may_stop n (lanes_held olds) (delivered rounds.rest l) rounds.made (Some halt)) (sym lanes)
+        → ReportsTaking order keeps_events may_stop (record { state = record { setting = g; lanes = start }; events = before }) n r
+    end_reports start is r reported = reports_rounds order keeps_events may_stop g start raw rounds.rest n before after rounds.made halt r
+        (subst (λ (l : List Holding). MakesRounds order g may_stop n l (delivered rounds.rest raw) rounds.made (Some halt)) is
+        (subst (λ (l : List Holding). MakesRounds order g may_stop n (lanes_held olds) (delivered rounds.rest l) rounds.made (Some halt)) (sym lanes)
         rounds.makes)) rounds.noted
         (subst (λ (x : Setting). IsReportOf (record { state = record { setting = x; lanes = raw }; events = after }) halt r) setting reported)
 

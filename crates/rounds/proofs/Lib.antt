@@ -1,4 +1,6 @@
 pub mod Going
+pub mod Taking
+pub mod Stopping
 pub mod Turning
 pub mod Counting
 pub mod Rounding

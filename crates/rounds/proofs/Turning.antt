@@ -17,7 +17,9 @@ use Rattle.schedule.proofs.Places.{first_get, first_set}
 use Rattle.schedule.proofs.Tokens.{set_same}
 use Rattle.schedule.proofs.Stepping.{bounds_in}
 use Rattle.schedule.specs.Steps.{logged}
-use Rattle.rounds.specs.Turns.{by, Turns, Turned, Round, made_in, helds, all_sent, all_noted, arriving}
+use Rattle.rounds.specs.Turns.{by, Turns, Turned, helds, all_sent, all_noted, arriving}
+use Rattle.rounds.specs.ByDepth.{Takes}
+use Rattle.rounds.proofs.Taking.{Any, AnyRound, made_any}
 use Rattle.rounds.proofs.Going.{began_one, near_sent, next_placed}
 
 -- one event more at the end of a turn
@@ -106,27 +108,27 @@ set_twice (z ∷ zs) (suc i) x y = ap (λ (l : List Holding). z ∷ l) (set_twic
 -- What happened is known after a turn, and what it made is near.
 pub began_turn : (inputs : List ℤ) (g : Setting) (good : IsGoodSetting g) (e : ℕ) (others : List Token) (ts : List Token) (raw : List Holding)
     (lane new : Holding) (before after : List Token) → length raw ≡ g.elements → AllFrom (IsPlaced g) 0 raw
-    → slice_get raw e ≡ Some lane → Turns g.program g.steps lane before ts new after → (evs : Events) → Began inputs (arriving g raw (others ++ before)) evs
+    → slice_get raw e ≡ Some lane → (k : ℕ) → Takes Any g.program g.steps k lane before ts new after → (evs : Events) → Began inputs (arriving g raw (others ++ before)) evs
     → Began inputs (arriving g (slice_set raw e new) (others ++ after)) (evs ++ by e ts)
-began_turn inputs g good e others [] raw lane new before after count sound there turns evs b =
+began_turn inputs g good e others [] raw lane new before after count sound there k turns evs b =
     let lanes : raw ≡ slice_set raw e new = sym (set_same raw e lane there) ∙ ap (λ (h : Holding). slice_set raw e h) (sym turns.0) in
     let one : Began inputs (arriving g (slice_set raw e new) (others ++ before)) evs = subst
     (λ (l : List Holding). Began inputs (arriving g l (others ++ before)) evs) lanes b in
     let two : Began inputs (arriving g (slice_set raw e new) (others ++ after)) evs = subst
     (λ (l : List Token). Began inputs (arriving g (slice_set raw e new) (others ++ l)) evs) (sym turns.1) one in
     subst (λ (l : Events). Began inputs (arriving g (slice_set raw e new) (others ++ after)) l) (sym (append-nil evs)) two
-began_turn inputs g good e others (t ∷ ts) raw lane new before after count sound there (mid, sent, does, is, few, mid_sound, rest) evs b =
+began_turn inputs g good e others (t ∷ ts) raw lane new before after count sound there k (pick, may, mid, sent, does, is, few, mid_sound, rest) evs b =
     let set : List Holding = slice_set raw e mid in
     let made : mid.made ≤ g.steps = (let c = does.count in omega arith) in
     let placed : AllFrom (IsPlaced g) 0 set = first_set (IsPlaced g) raw e mid sound (next_placed g good raw count sound e lane mid others before sent
-    there does mid_sound made) in
+    there pick does mid_sound made) in
     let one : Began inputs (arriving g set (others ++ sent)) (evs ++ (e, does.token) ∷ []) = began_one inputs g good raw count sound e lane mid others
-    before sent there does evs b in
+    before sent there pick does evs b in
     let now : Events = evs ++ (e, t) ∷ [] in
     let here : Began inputs (arriving g set (others ++ sent)) now = subst (λ (u : Token). Began inputs (arriving g set (others ++ sent))
     (evs ++ (e, u) ∷ [])) is one in
     let all : Began inputs (arriving g (slice_set set e new) (others ++ after)) (now ++ by e ts) = began_turn inputs g good e others ts set mid new
-    sent after (length-set raw e mid ∙ count) placed (get_set raw e lane mid there) rest now here in
+    sent after (length-set raw e mid ∙ count) placed (get_set raw e lane mid there) (suc k) rest now here in
     let last : Began inputs (arriving g (slice_set raw e new) (others ++ after)) (now ++ by e ts) = subst
     (λ (l : List Holding). Began inputs (arriving g l (others ++ after)) (now ++ by e ts)) (set_twice raw e mid new) all in
     subst (λ (l : Events). Began inputs (arriving g (slice_set raw e new) (others ++ after)) l) (append_assoc evs ((e, t) ∷ []) (by e ts)) last
@@ -134,20 +136,21 @@ began_turn inputs g good e others (t ∷ ts) raw lane new before after count sou
 -- the lane is as sound after a turn, and all that it made is near
 pub placed_turn : (g : Setting) (good : IsGoodSetting g) (e : ℕ) (ts : List Token) (raw : List Holding) (lane new : Holding)
     (before after : List Token) → length raw ≡ g.elements → AllFrom (IsPlaced g) 0 raw
-    → slice_get raw e ≡ Some lane → Turns g.program g.steps lane before ts new after → All (IsNearToken (bounds_in g)) before → IsPlaced g e new
+    → slice_get raw e ≡ Some lane → (k : ℕ) → Takes Any g.program g.steps k lane before ts new after → All (IsNearToken (bounds_in g)) before
+    → IsPlaced g e new
     × All (IsNearToken (bounds_in g)) after
-placed_turn g good e [] raw lane new before after count sound there turns near = (
+placed_turn g good e [] raw lane new before after count sound there k turns near = (
   subst (λ (h : Holding). IsPlaced g e h) (sym turns.0) (first_get (IsPlaced g) raw e lane sound there),
   subst
       (λ (l : List Token). All (IsNearToken (bounds_in g)) l) (sym turns.1) near,
 )
-placed_turn g good e (t ∷ ts) raw lane new before after count sound there (mid, sent, does, is, few, mid_sound, rest) near =
+placed_turn g good e (t ∷ ts) raw lane new before after count sound there k (pick, may, mid, sent, does, is, few, mid_sound, rest) near =
     let set : List Holding = slice_set raw e mid in
     let made : mid.made ≤ g.steps = (let c = does.count in omega arith) in
     let placed : AllFrom (IsPlaced g) 0 set = first_set (IsPlaced g) raw e mid sound (next_placed g good raw count sound e lane mid [] before sent
-    there does mid_sound made) in
-    placed_turn g good e ts set mid new sent after (length-set raw e mid ∙ count) placed (get_set raw e lane mid there) rest
-    (near_sent g good raw count sound e lane mid [] before sent there does near)
+    there pick does mid_sound made) in
+    placed_turn g good e ts set mid new sent after (length-set raw e mid ∙ count) placed (get_set raw e lane mid there) (suc k) rest
+    (near_sent g good raw count sound e lane mid [] before sent there pick does near)
 
 -- A ROUND
 get_next : (done : List Holding) (x : Holding) (xs : List Holding) → slice_get (done ++ x ∷ xs) (length done) ≡ Some x
@@ -166,7 +169,7 @@ pub record Standing (g : Setting) (raw : List Holding) (others : List Token) : T
 
 -- Each of the lanes from the k-th on took its turn, one after the other.
 pub stands_round : (g : Setting) (keeps_events may_stop : Bool) (k : ℕ) (done : List Holding) (olds : List Holding) (ts : List Turned)
-    (others : List Token) → length done ≡ k → Standing g (done ++ olds) others → (round : Round g keeps_events may_stop olds ts)
+    (others : List Token) → length done ≡ k → Standing g (done ++ olds) others → (round : AnyRound g keeps_events may_stop olds ts)
     → Standing g (done ++ helds ts) (others ++ all_sent ts)
 stands_round g keeps_events may_stop k done [] [] others at s round = record {
   good = s.good;
@@ -179,7 +182,7 @@ stands_round g keeps_events may_stop k done (h ∷ hs) [] others at s round = ab
 stands_round g keeps_events may_stop k done (h ∷ hs) (t ∷ ts) others at s (turn, rest) =
     let raw : List Holding = done ++ h ∷ hs in
     let there : slice_get raw k ≡ Some h = subst (λ (n : ℕ). slice_get raw n ≡ Some h) at (get_next done h hs) in
-    let both = placed_turn g s.good k turn.taken raw h t.held [] t.sent s.count s.sound there turn.turns (All-nil (IsNearToken (bounds_in g))) in
+    let both = placed_turn g s.good k turn.taken raw h t.held [] t.sent s.count s.sound there 0 turn.turns (All-nil (IsNearToken (bounds_in g))) in
     let set : slice_set raw k t.held ≡ (done ++ t.held ∷ []) ++ hs = subst (λ (n : ℕ). slice_set raw n t.held ≡ (done ++ t.held ∷ []) ++ hs) at
     (set_next done h t.held hs) in
     let next : Standing g ((done ++ t.held ∷ []) ++ hs) (others ++ t.sent) = subst (λ (l : List Holding). Standing g l (others ++ t.sent)) set (record {
@@ -196,9 +199,9 @@ stands_round g keeps_events may_stop k done (h ∷ hs) (t ∷ ts) others at s (t
 
 pub began_round : (inputs : List ℤ) (g : Setting) (keeps_events may_stop : Bool) (k : ℕ) (done : List Holding) (olds : List Holding)
     (ts : List Turned) (others : List Token) (evs : Events) → length done ≡ k → Standing g (done ++ olds) others
-    → (round : Round g keeps_events may_stop olds ts)
+    → (round : AnyRound g keeps_events may_stop olds ts)
     → Began inputs (arriving g (done ++ olds) others) evs → Began inputs (arriving g (done ++ helds ts) (others ++ all_sent ts))
-    (evs ++ made_in g keeps_events may_stop olds ts round)
+    (evs ++ made_any g keeps_events may_stop olds ts round)
 began_round inputs g keeps_events may_stop k done [] [] others evs at s round b =
     subst (λ (l : Events). Began inputs (arriving g (done ++ []) (others ++ [])) l) (sym (append-nil evs))
     (subst (λ (l : List Token). Began inputs (arriving g (done ++ []) l) evs) (sym (append-nil others)) b)
@@ -215,12 +218,12 @@ began_round inputs g keeps_events may_stop k done (h ∷ hs) (t ∷ ts) others e
     let start : Began inputs (arriving g raw (others ++ [])) evs =
     subst (λ (l : List Token). Began inputs (arriving g raw l) evs) (sym (append-nil others)) b in
     let one : Began inputs (arriving g (slice_set raw k t.held) (others ++ t.sent)) (evs ++ by k turn.taken) = began_turn inputs g s.good k others
-    turn.taken raw h t.held [] t.sent s.count s.sound there turn.turns evs start in
+    turn.taken raw h t.held [] t.sent s.count s.sound there 0 turn.turns evs start in
     let two : Began inputs (arriving g ((done ++ t.held ∷ []) ++ hs) (others ++ t.sent)) (evs ++ by e turn.taken)
     = subst (λ (l : Events). Began inputs (arriving g ((done ++ t.held ∷ []) ++ hs) (others ++ t.sent)) (evs ++ l)) noted
     (subst (λ (l : List Holding). Began inputs (arriving g l (others ++ t.sent)) (evs ++ by k turn.taken)) set one) in
     let standing : Standing g ((done ++ t.held ∷ []) ++ hs) (others ++ t.sent) = (let both = placed_turn g s.good k turn.taken raw h t.held [] t.sent
-    s.count s.sound there turn.turns (All-nil (IsNearToken (bounds_in g))) in
+    s.count s.sound there 0 turn.turns (All-nil (IsNearToken (bounds_in g))) in
     subst (λ (l : List Holding). Standing g l (others ++ t.sent)) set (record {
       good = s.good;
       count = length-set raw k t.held ∙ s.count;
@@ -231,15 +234,15 @@ began_round inputs g keeps_events may_stop k done (h ∷ hs) (t ∷ ts) others e
     let all = began_round inputs g keeps_events may_stop (suc k) (done ++ t.held ∷ []) hs ts (others ++ t.sent) (evs ++ by e turn.taken) at_next
     standing rest two in
     subst (λ (l : List Holding). Began inputs (arriving g l (others ++ all_sent (t ∷ ts)))
-    (evs ++ (by e turn.taken ++ made_in g keeps_events may_stop hs ts rest))) (append_assoc done (t.held ∷ []) (helds ts))
+    (evs ++ (by e turn.taken ++ made_any g keeps_events may_stop hs ts rest))) (append_assoc done (t.held ∷ []) (helds ts))
     (subst (λ (l : List Token). Began inputs (arriving g ((done ++ t.held ∷ []) ++ helds ts) l)
-    (evs ++ (by e turn.taken ++ made_in g keeps_events may_stop hs ts rest))) (append_assoc others t.sent (all_sent ts))
+    (evs ++ (by e turn.taken ++ made_any g keeps_events may_stop hs ts rest))) (append_assoc others t.sent (all_sent ts))
     (subst (λ (l : Events). Began inputs (arriving g ((done ++ t.held ∷ []) ++ helds ts) ((others ++ t.sent) ++ all_sent ts)) l)
-    (append_assoc evs (by e turn.taken) (made_in g keeps_events may_stop hs ts rest)) all))
+    (append_assoc evs (by e turn.taken) (made_any g keeps_events may_stop hs ts rest)) all))
 
 -- IN MEMORY
-pub one_token : (h : Holding) (t u : Token) → one.Picks h 0 t → one.Picks h 0 u → t ≡ u
-one_token h t u p q = let a = p.token in let b = q.token in cc
+pub one_token : (h : Holding) (pick : ℕ) (t u : Token) → one.Picks h pick t → one.Picks h pick u → t ≡ u
+one_token h pick t u p q = let a = p.token in let b = q.token in cc
 
 more_at : (first : Events) (at e : ℕ) (ts : List Token) (t u : Token) → e ≡ at → t ≡ u → (first ++ by at ts) ++ (e, u) ∷ [] ≡ first ++ by at (ts ++ t ∷ [])
 more_at first at e ts t u place token =
@@ -261,7 +264,7 @@ logged_app true a b = refl
 logged_app false a b = refl
 
 pub noted_round : (g : Setting) (keeps_events may_stop : Bool) (olds : List Holding) (ts : List Turned)
-    (round : Round g keeps_events may_stop olds ts) → all_noted ts ≡ logged keeps_events [] (made_in g keeps_events may_stop olds ts round)
+    (round : AnyRound g keeps_events may_stop olds ts) → all_noted ts ≡ logged keeps_events [] (made_any g keeps_events may_stop olds ts round)
 noted_round g true may_stop [] [] round = refl
 noted_round g false may_stop [] [] round = refl
 noted_round g keeps_events may_stop [] (t ∷ ts) round = absurd round
@@ -269,7 +272,7 @@ noted_round g keeps_events may_stop (h ∷ hs) [] round = absurd round
 noted_round g keeps_events may_stop (h ∷ hs) (t ∷ ts) (turn, rest) =
     ap (λ (l : Events). l ++ all_noted ts) turn.noted ∙ ap (λ (l : Events). logged keeps_events [] (by h.part.shape.element turn.taken) ++ l)
     (noted_round g keeps_events may_stop hs ts rest)
-    ∙ logged_app keeps_events (by h.part.shape.element turn.taken) (made_in g keeps_events may_stop hs ts rest)
+    ∙ logged_app keeps_events (by h.part.shape.element turn.taken) (made_any g keeps_events may_stop hs ts rest)
 
 -- more events at the end of a list
 pub logged_from : (keeps_events : Bool) (before made : Events) → before ++ logged keeps_events [] made ≡ logged keeps_events before made

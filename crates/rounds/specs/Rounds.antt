@@ -9,12 +9,14 @@ use Rattle.schedule.specs.Shown.{ShowsInOrder}
 use Rattle.schedule.specs.Unlisted.{with_events}
 use Rattle.element.specs.Holding.{Holding, Fixed, held_of, fixed_of}
 use Rattle.schedule.specs.declared.halt.Halt.{Halt}
+use Rattle.schedule.specs.declared.take.Take.{Take}
 use Rattle.schedule.specs.Setting.{Setting}
 use Rattle.schedule.specs.State.{State, IsSoundState, RunsAs, delivered}
 use Rattle.schedule.specs.Steps.{logged}
 use Rattle.schedule.specs.Runs.{Began, HaltsAs}
 use Rattle.rounds.specs.declared.turn.Turner.{Turner}
-use Rattle.rounds.specs.Turns.{Turned, Round, made_in, helds, all_sent, arriving}
+use Rattle.rounds.specs.Turns.{Turned, helds, all_sent, arriving}
+use Rattle.rounds.specs.ByDepth.{RoundTaking, made_taking}
 use Rattle.rounds.specs.Counted.{answers, MakesRounds}
 
 abbrev pub lane_held : {C A L : Type 0} → Turner C A L → Holding
@@ -68,17 +70,17 @@ Leads g old new rest made = (inputs : List ℤ) (before : Events) → Began inpu
     → Began inputs (arriving g (lanes_held new) rest) (before ++ made)
 
 -- what this number of rounds does, with the events that they made
-pub record Rounds {C A L : Type 0} (g : Setting) (keeps_events may_stop : Bool) (rounds : ℕ) (old : List (Turner C A L)) (before : Events)
+pub record Rounds {C A L : Type 0} (order : Take) (g : Setting) (keeps_events may_stop : Bool) (rounds : ℕ) (old : List (Turner C A L)) (before : Events)
     (new : List (Turner C A L)) (after : Events) (halt : Option Halt) : Type 0 where
   pub rest : List Token
   pub made : Events
   pub goes : GoesOn g may_stop new rest halt
   pub noted : after ≡ logged keeps_events before made
   pub leads : Leads g old new rest made
-  pub makes : MakesRounds g may_stop rounds (lanes_held old) (delivered rest (lanes_held new)) made halt
+  pub makes : MakesRounds order g may_stop rounds (lanes_held old) (delivered rest (lanes_held new)) made halt
 
 -- what the turns of a round leave, with all tokens that are on their way
-pub record MadeRound {C A L : Type 0} (g : Setting) (keeps_events may_stop : Bool) (old : List (Turner C A L)) (before : Events)
+pub record MadeRound {C A L : Type 0} (order : Take) (g : Setting) (keeps_events may_stop : Bool) (old : List (Turner C A L)) (before : Events)
     (new : List (Turner C A L)) (after : Events) (tokens : List Token) : Type 0 where
   pub sound : IsSoundState (arriving g (lanes_held new) tokens)
   pub runs : All (RunsAs g) (lanes_fixed new)
@@ -89,8 +91,8 @@ pub record MadeRound {C A L : Type 0} (g : Setting) (keeps_events may_stop : Boo
   pub cleared : events_noted new ≡ []
   pub count : length new ≡ length old
   pub turned : List Turned
-  pub round : Round g keeps_events may_stop (lanes_held old) turned
-  pub events : made ≡ made_in g keeps_events may_stop (lanes_held old) turned round
+  pub round : RoundTaking order g keeps_events may_stop (lanes_held old) turned
+  pub events : made ≡ made_taking order g keeps_events may_stop (lanes_held old) turned round
   pub lanes : lanes_held new ≡ helds turned
   pub sent : tokens ≡ all_sent turned
   pub answered : halts_in new ≡ answers turned

@@ -1,24 +1,30 @@
 //! Rounds.
 
-ghost use Rattle.std.specs.Prelude.{◌≡◌, ◌<◌, ◌++◌, [], ℕ, ℤ, List, length, map, All, slice_index_or, IfOk, IfSome, IfNone, OnOk, Some, None, true, false};
+ghost use Rattle.std.specs.Prelude.{◌≡◌, ◌<◌, ◌≤◌, ◌-◌, ◌^◌, ◌++◌, [], ℕ, ℤ, List, length, map, All, slice_index_or, IfOk, IfSome, IfNone, OnOk, Some, None, true, false};
 ghost use Rattle.semantics.specs.Machine.{Events};
 ghost use Rattle.schedule.specs.Shown.{ShowsInOrder};
 ghost use Rattle.element.specs.Holding.{held_of, fixed_of};
+ghost use Rattle.element.specs.Requests.{held_back};
 ghost use Rattle.schedule.specs.Setting.{size};
 ghost use Rattle.schedule.specs.State.{IsSoundState, RunsAs, setting_in, tokens_in};
 ghost use Rattle.schedule.specs.Runs.{Began};
 ghost use Rattle.schedule.specs.Apart.{so_far_of};
 ghost use Rattle.schedule.specs.Unlisted.{ShowsQuietly, without_events};
-ghost use Rattle.rounds.specs.Counted.{IsFirst, NoneHalts, IsWhy, ReportsRounds};
-ghost use Rattle.rounds.specs.Turns.{TookTurn, arriving};
+ghost use Rattle.schedule.specs.declared.take.Take.{Take};
+ghost use Rattle.schedule.specs.Turns.{others};
+ghost use Rattle.rounds.specs.Counted.{IsFirst, NoneHalts, IsWhy, ReportsTaking, ReportsRounds};
+ghost use Rattle.rounds.specs.Turns.{arriving};
+ghost use Rattle.rounds.specs.ByDepth.{TookTaking};
 ghost use Rattle.rounds.specs.Rounds.{lanes_held, lanes_fixed, tokens_sent, IsCleared, halts_in, IsBetween, Rounds, MadeRound, ShowsOn};
 
 use crate::delivering::deliver_all;
 use crate::gate::Gate;
 use crate::gathering::{gather_events, gather_tokens};
-use crate::turn::{Turner, make_turn};
+use crate::turn::{Turner, make_turn_taking};
+use element::grant_order::GrantOrder;
 use element::instructions::Instructions;
 use element::lane::Lane;
+use element::requests::requests_before;
 use packed::token::PackedToken;
 use schedule::halt::Halt;
 use schedule::log::{EventLog, Log};
@@ -26,10 +32,12 @@ use schedule::machine::Machine;
 use schedule::main_code::MainCode;
 use schedule::report::Report;
 use schedule::setup::Setup;
+use schedule::take::Take;
 use std::alloc::{AllocError, Allocator};
 use std::sync::Wait;
 use std::thread;
 use std::thread::Threads;
+use token_queue::queue::TokenQueue;
 
 // Where the elements of a round make their turns.
 #[derive(Clone, Copy)]
@@ -38,6 +46,13 @@ enum Threading {
     Apart,
     // One element after another, in the thread of the caller.
     Together,
+}
+
+// How rounds are made: where, and in which order each element takes its tokens.
+#[derive(Clone, Copy)]
+struct Way {
+    threading: Threading,
+    take: Take,
 }
 
 // In how many threads so many elements make their turns.
@@ -51,6 +66,52 @@ fn threads_of(threading: Threading, elements: usize) -> usize
     }
 }
 
+// How many tokens a queue has.
+fn count<A: Allocator>(queue: &TokenQueue<A>) -> u128
+    ensures exact { result ≡ length queue.now.items }
+    ensures few { result < 2 ^ 64 }
+{
+    queue.len() as u128
+}
+
+// How many tokens it has besides the requests for frames that it begins with.
+fn besides<A: Allocator>(queue: &TokenQueue<A>) -> u128
+    ensures exact { result ≡ length queue.now.items - held_back queue.now.items }
+    ensures few { result < 2 ^ 64 }
+{
+    (queue.len() - requests_before(queue, 0)) as u128
+}
+
+// How many tokens there are besides the requests for frames that the first element holds back.
+fn ordinary<C: Instructions, A: Allocator, L: Log>(turners: &[Turner<'_, C, A, L>]) -> u128
+    requires some { 0 < length turners.now }
+    requires few { length turners.now ≤ 16 }
+    ensures exact { result ≡ others (lanes_held turners.now) }
+    ensures few { result < 2 ^ 80 }
+{
+    let mut tokens = besides(turners[0].lane.queue());
+    for place in 1..turners.len() {
+        tokens += count(turners[place].lane.queue());
+    }
+    tokens
+}
+
+// The same where element 0 holds requests back.
+fn ordinary_in<C: Instructions, A: Allocator, L: Log>(
+    take: Take,
+    turners: &[Turner<'_, C, A, L>],
+) -> u128
+    requires some { 0 < length turners.now }
+    requires few { length turners.now ≤ 16 }
+    ensures exact { take ≡ Take.Depth → result ≡ others (lanes_held turners.now) }
+    ensures few { result < 2 ^ 80 }
+{
+    match take {
+        Take::Oldest => 0,
+        Take::Depth => ordinary(turners),
+    }
+}
+
 // Each element makes its turn.
 fn make_turns<
     R: Threads + Sync,
@@ -58,20 +119,22 @@ fn make_turns<
     A: Allocator + Clone + Send,
     L: Log + Send,
     G: Gate + Sync,
->(rt: &R, threading: Threading, turners: &mut [Turner<'_, C, A, L>], gate: &G, turn: u64)
-    requires { 0 < length turners.old }
-    ensures each { (i : ℕ) (d : _) → i < length turners.old → TookTurn turn L.KEEPS_EVENTS G.may_stop (slice_index_or turners.old i d)
+>(rt: &R, way: Way, turners: &mut [Turner<'_, C, A, L>], gate: &G, turn: u64, ordinary: u128)
+    requires some { 0 < length turners.old }
+    requires few { ordinary < 2 ^ 80 }
+    ensures each { (i : ℕ) (d : _) → i < length turners.old → TookTaking way.take turn ordinary L.KEEPS_EVENTS G.may_stop (slice_index_or turners.old i d)
         (slice_index_or turners.new i d) }
     ensures count { length turners.new ≡ length turners.old }
 {
-    let threads = threads_of(threading, turners.len());
+    let threads = threads_of(way.threading, turners.len());
     thread::for_each_mut(
         rt,
         turners,
         threads,
         &|_: usize, turner: &mut Turner<'_, C, A, L>| -> ()
-            ensures { TookTurn turn L.KEEPS_EVENTS G.may_stop turner.old turner.new }
-        { make_turn(turner, gate, turn) },
+            requires { ordinary < 2 ^ 80 }
+            ensures { TookTaking way.take turn ordinary L.KEEPS_EVENTS G.may_stop turner.old turner.new }
+        { make_turn_taking(turner, gate, turn, way.take, ordinary) },
     );
 }
 
@@ -128,7 +191,7 @@ fn make_round<
     G: Gate + Sync,
 >(
     rt: &R,
-    threading: Threading,
+    way: Way,
     setup: &mut Setup<'_, C, A, L>,
     turners: &mut [Turner<'_, C, A, L>],
     tokens: &mut Vec<PackedToken, A>,
@@ -138,12 +201,13 @@ fn make_round<
     requires between { IsBetween (setting_in C.program C.width setup.old.shape) turners.old }
     requires tokens { tokens.old.items ≡ [] }
     ensures setting { setting_in C.program C.width setup.new.shape ≡ setting_in C.program C.width setup.old.shape }
-    ensures made { OnOk result (MadeRound (setting_in C.program C.width setup.old.shape) L.KEEPS_EVENTS G.may_stop turners.old
+    ensures made { OnOk result (MadeRound way.take (setting_in C.program C.width setup.old.shape) L.KEEPS_EVENTS G.may_stop turners.old
         setup.old.log.events.items turners.new setup.new.log.events.items (tokens.new.items ++ tokens_sent turners.new)) }
     ensures all { IfOk result (λ all. all ≡ true → tokens_sent turners.new ≡ []) }
     ensures count { length turners.new ≡ length turners.old }
 {
-    make_turns(rt, threading, turners, gate, setup.shape.turn);
+    let ordinary = ordinary_in(way.take, turners);
+    make_turns(rt, way, turners, gate, setup.shape.turn, ordinary);
     gather_events(turners, &mut setup.log)?;
     match gather_tokens(turners, tokens) {
         Ok(()) => Ok(true),
@@ -160,7 +224,7 @@ fn make_whole_round<
     G: Gate + Sync,
 >(
     rt: &R,
-    threading: Threading,
+    way: Way,
     setup: &mut Setup<'_, C, A, L>,
     turners: &mut Vec<Turner<'_, C, A, L>, A>,
     tokens: &mut Vec<PackedToken, A>,
@@ -170,12 +234,12 @@ fn make_whole_round<
     requires between { IsBetween (setting_in C.program C.width setup.old.shape) turners.old.items }
     requires tokens { tokens.old.items ≡ [] }
     ensures setting { setting_in C.program C.width setup.new.shape ≡ setting_in C.program C.width setup.old.shape }
-    ensures made { OnOk result (MadeRound (setting_in C.program C.width setup.old.shape) L.KEEPS_EVENTS G.may_stop turners.old.items
+    ensures made { OnOk result (MadeRound way.take (setting_in C.program C.width setup.old.shape) L.KEEPS_EVENTS G.may_stop turners.old.items
         setup.old.log.events.items turners.new.items setup.new.log.events.items (tokens.new.items ++ tokens_sent turners.new.items)) }
     ensures all { IfOk result (λ all. all ≡ true → tokens_sent turners.new.items ≡ []) }
     ensures count { length turners.new.items ≡ length turners.old.items }
 {
-    make_round(rt, threading, setup, turners, tokens, gate)
+    make_round(rt, way, setup, turners, tokens, gate)
 }
 
 // One round: why the run halts after it, if it does. An error is that the list of events could not grow.
@@ -187,7 +251,7 @@ fn round<
     G: Gate + Sync,
 >(
     rt: &R,
-    threading: Threading,
+    way: Way,
     setup: &mut Setup<'_, C, A, L>,
     turners: &mut Vec<Turner<'_, C, A, L>, A>,
     tokens: &mut Vec<PackedToken, A>,
@@ -196,11 +260,11 @@ fn round<
     requires between { IsBetween (setting_in C.program C.width setup.old.shape) turners.old.items }
     requires tokens { tokens.old.items ≡ [] }
     ensures setting { setting_in C.program C.width setup.new.shape ≡ setting_in C.program C.width setup.old.shape }
-    ensures rounds { IfOk result (λ halt. Rounds (setting_in C.program C.width setup.old.shape) L.KEEPS_EVENTS G.may_stop 1 turners.old.items
+    ensures rounds { IfOk result (λ halt. Rounds way.take (setting_in C.program C.width setup.old.shape) L.KEEPS_EVENTS G.may_stop 1 turners.old.items
         setup.old.log.events.items turners.new.items setup.new.log.events.items halt) }
     ensures tokens { IfOk result (λ halt. halt ≡ None → tokens.new.items ≡ []) }
 {
-    let all = make_whole_round(rt, threading, setup, turners, tokens, gate)?;
+    let all = make_whole_round(rt, way, setup, turners, tokens, gate)?;
     if !all {
         return Ok(Some(Halt::Memory));
     }
@@ -226,7 +290,7 @@ fn play<
     G: Gate + Sync,
 >(
     rt: &R,
-    threading: Threading,
+    way: Way,
     setup: &mut Setup<'_, C, A, L>,
     turners: &mut Vec<Turner<'_, C, A, L>, A>,
     tokens: &mut Vec<PackedToken, A>,
@@ -235,13 +299,13 @@ fn play<
     requires between { IsBetween (setting_in C.program C.width setup.old.shape) turners.old.items }
     requires tokens { tokens.old.items ≡ [] }
     ensures setting { setting_in C.program C.width setup.new.shape ≡ setting_in C.program C.width setup.old.shape }
-    ensures rounds { IfOk result (λ p. Rounds (setting_in C.program C.width setup.old.shape) L.KEEPS_EVENTS G.may_stop p.rounds turners.old.items
+    ensures rounds { IfOk result (λ p. Rounds way.take (setting_in C.program C.width setup.old.shape) L.KEEPS_EVENTS G.may_stop p.rounds turners.old.items
         setup.old.log.events.items turners.new.items setup.new.log.events.items (Some p.halt)) }
 {
     let mut rounds = 0;
     'rounds: for _ in rt.forever() {
         rounds += 1;
-        if let Some(halt) = round(rt, threading, setup, turners, tokens, gate)? {
+        if let Some(halt) = round(rt, way, setup, turners, tokens, gate)? {
             return Ok(Played { halt, rounds });
         }
     }
@@ -253,6 +317,7 @@ fn turner<'m, C: Instructions, A: Allocator, L: Log>(
     lane: Lane<'m, C, A>,
     sent: Vec<PackedToken, A>,
     log: EventLog<A, L>,
+    order: GrantOrder<A>,
 ) -> Turner<'m, C, A, L>
     ensures lane { result.lane ≡ lane.entry }
     ensures lists { (result.sent.items ≡ sent.items) × (result.log.events.items ≡ log.events.items) }
@@ -263,6 +328,7 @@ fn turner<'m, C: Instructions, A: Allocator, L: Log>(
         log,
         halt: None,
         blocks: 0,
+        order,
     }
 }
 
@@ -280,7 +346,8 @@ where
     'each: for _at in 0..lanes.len() {
         let sent = Vec::new(alloc.clone()?);
         let log = EventLog::new(alloc.clone()?);
-        turners.push(turner(lanes.remove(0), sent, log))?;
+        let order = GrantOrder::new(alloc)?;
+        turners.push(turner(lanes.remove(0), sent, log, order))?;
     }
     Ok(turners)
 }
@@ -341,7 +408,7 @@ fn run_apart<
     mut setup: Setup<'_, C, A, L>,
     lanes: Vec<Lane<'_, C, A>, A>,
     rt: &R,
-    threading: Threading,
+    way: Way,
     gate: &G,
 ) -> Counted<A>
     requires sound { IsSoundState (arriving (setting_in C.program C.width setup.shape) (map held_of lanes.items) []) }
@@ -351,12 +418,12 @@ fn run_apart<
         → Began inputs (arriving (setting_in C.program C.width setup.entry.shape) (map held_of lanes.entry.items) []) events
         → ShowsOn L.KEEPS_EVENTS (C.program setup.entry.shape.code.now) (size (setting_in C.program C.width setup.entry.shape)) inputs
         setup.entry.shape.steps G.may_stop setup.entry.log.events.items events result.report }
-    ensures truth { ReportsRounds L.KEEPS_EVENTS G.may_stop (so_far_of C.program C.width setup.entry lanes.entry.items) result.rounds result.report }
+    ensures truth { ReportsTaking way.take L.KEEPS_EVENTS G.may_stop (so_far_of C.program C.width setup.entry lanes.entry.items) result.rounds result.report }
 {
     let Ok((mut turners, mut tokens, mut spare)) = ready(&setup.alloc, lanes) else {
         return unmade(setup.refused());
     };
-    let Ok(played) = play(rt, threading, &mut setup, &mut turners, &mut tokens, gate) else {
+    let Ok(played) = play(rt, way, &mut setup, &mut turners, &mut tokens, gate) else {
         return unmade(setup.refused());
     };
     match lanes_in(turners, &mut spare) {
@@ -383,15 +450,15 @@ fn run_machine<
     A: Allocator + Clone + Send,
     L: Log + Send,
     G: Gate + Sync,
->(machine: Machine<'_, C, A, L>, rt: &R, threading: Threading, gate: &G) -> Counted<A>
+>(machine: Machine<'_, C, A, L>, rt: &R, way: Way, gate: &G) -> Counted<A>
     ensures unlisted { L.KEEPS_EVENTS ≡ false → machine.entry.events ≡ [] → result.report.events ≡ [] }
     ensures shows { (inputs : List ℤ) (events : Events) → Began inputs machine.entry.state events
         → ShowsOn L.KEEPS_EVENTS machine.entry.state.setting.program (size machine.entry.state.setting) inputs machine.entry.state.setting.steps
         G.may_stop machine.entry.events events result.report }
-    ensures truth { ReportsRounds L.KEEPS_EVENTS G.may_stop machine.entry result.rounds result.report }
+    ensures truth { ReportsTaking way.take L.KEEPS_EVENTS G.may_stop machine.entry result.rounds result.report }
 {
     match machine.into_lanes() {
-        Ok((setup, lanes)) => run_apart(setup, lanes, rt, threading, gate),
+        Ok((setup, lanes)) => run_apart(setup, lanes, rt, way, gate),
         Err(machine) => unmade(machine.report(Halt::Memory)),
     }
 }
@@ -402,12 +469,12 @@ fn run_listed<
     C: MainCode + Sync,
     A: Allocator + Clone + Send,
     G: Gate + Sync,
->(machine: Machine<'_, C, A>, rt: &R, threading: Threading, gate: &G) -> Counted<A>
+>(machine: Machine<'_, C, A>, rt: &R, way: Way, gate: &G) -> Counted<A>
     ensures shows { (inputs : List ℤ) → Began inputs machine.entry.state machine.entry.events → ShowsInOrder machine.entry.state.setting.program
         (size machine.entry.state.setting) inputs machine.entry.state.setting.steps false G.may_stop result.report }
-    ensures truth { ReportsRounds true G.may_stop machine.entry result.rounds result.report }
+    ensures truth { ReportsTaking way.take true G.may_stop machine.entry result.rounds result.report }
 {
-    run_machine(machine, rt, threading, gate)
+    run_machine(machine, rt, way, gate)
 }
 
 /// Makes rounds until the run halts, and reports. In each round every element asks the gate, and makes up to `turn` events
@@ -423,7 +490,28 @@ pub fn run<
         (size machine.entry.state.setting) inputs machine.entry.state.setting.steps false G.may_stop result }
     ensures truth { (rounds : ℕ) × ReportsRounds true G.may_stop machine.entry rounds result }
 {
-    run_listed(machine, rt, Threading::Apart, gate).report
+    run_taking(machine, rt, gate, Take::Oldest)
+}
+
+/// As `run`, in the given order of the tokens. With `Take::Depth` each element takes its oldest tokens, but element 0 holds back the requests
+/// for frames that its queue begins with: at the beginning of its turn it grants some of them where few other tokens are left in the machine,
+/// and then it takes its oldest other tokens. Which of them it grants is a choice, and the same in each run; where there is no room to note it,
+/// memory is refused.
+pub fn run_taking<
+    R: Threads + Wait + Sync,
+    C: MainCode + Sync,
+    A: Allocator + Clone + Send,
+    G: Gate + Sync,
+>(machine: Machine<'_, C, A>, rt: &R, gate: &G, take: Take) -> Report<A>
+    ensures shows { (inputs : List ℤ) → Began inputs machine.entry.state machine.entry.events → ShowsInOrder machine.entry.state.setting.program
+        (size machine.entry.state.setting) inputs machine.entry.state.setting.steps false G.may_stop result }
+    ensures truth { (rounds : ℕ) × ReportsTaking take true G.may_stop machine.entry rounds result }
+{
+    let way = Way {
+        threading: Threading::Apart,
+        take,
+    };
+    run_listed(machine, rt, way, gate).report
 }
 
 /// As `run`, and answers how many rounds were made, too. All turns are made in the thread of the caller, one element's after
@@ -438,7 +526,25 @@ pub fn run_counted<
         (size machine.entry.state.setting) inputs machine.entry.state.setting.steps false G.may_stop result.report }
     ensures truth { ReportsRounds true G.may_stop machine.entry result.rounds result.report }
 {
-    run_listed(machine, rt, Threading::Together, gate)
+    run_counted_taking(machine, rt, gate, Take::Oldest)
+}
+
+/// As `run_counted`, in the given order of the tokens, as `run_taking`.
+pub fn run_counted_taking<
+    R: Threads + Wait + Sync,
+    C: MainCode + Sync,
+    A: Allocator + Clone + Send,
+    G: Gate + Sync,
+>(machine: Machine<'_, C, A>, rt: &R, gate: &G, take: Take) -> Counted<A>
+    ensures shows { (inputs : List ℤ) → Began inputs machine.entry.state machine.entry.events → ShowsInOrder machine.entry.state.setting.program
+        (size machine.entry.state.setting) inputs machine.entry.state.setting.steps false G.may_stop result.report }
+    ensures truth { ReportsTaking take true G.may_stop machine.entry result.rounds result.report }
+{
+    let way = Way {
+        threading: Threading::Together,
+        take,
+    };
+    run_listed(machine, rt, way, gate)
 }
 
 /// As `run`, but the report lists no events: there is a run that it shows. A long run takes no more memory than a short one.
@@ -452,5 +558,23 @@ pub fn run_quietly<
         (size machine.entry.state.setting) inputs machine.entry.state.setting.steps false G.may_stop result }
     ensures truth { (rounds : ℕ) × ReportsRounds false G.may_stop (without_events machine.entry.state) rounds result }
 {
-    run_machine(machine.without_events(), rt, Threading::Apart, gate).report
+    run_quietly_taking(machine, rt, gate, Take::Oldest)
+}
+
+/// As `run_taking`, but the report lists no events: there is a run that it shows. A long run takes no more memory than a short one.
+pub fn run_quietly_taking<
+    R: Threads + Wait + Sync,
+    C: MainCode + Sync,
+    A: Allocator + Clone + Send,
+    G: Gate + Sync,
+>(machine: Machine<'_, C, A>, rt: &R, gate: &G, take: Take) -> Report<A>
+    ensures shows { (inputs : List ℤ) → Began inputs machine.entry.state machine.entry.events → ShowsQuietly machine.entry.state.setting.program
+        (size machine.entry.state.setting) inputs machine.entry.state.setting.steps false G.may_stop result }
+    ensures truth { (rounds : ℕ) × ReportsTaking take false G.may_stop (without_events machine.entry.state) rounds result }
+{
+    let way = Way {
+        threading: Threading::Apart,
+        take,
+    };
+    run_machine(machine.without_events(), rt, way, gate).report
 }

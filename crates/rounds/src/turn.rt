@@ -5,14 +5,18 @@ ghost use Rattle.tags.specs.declared.token.Token.{Token};
 ghost use Rattle.element.specs.Holding.{fixed_of, IsSoundLane};
 ghost use Rattle.schedule.specs.Steps.{logged};
 ghost use Rattle.rounds.specs.Turns.{by, Turns, IsWhole, HaltsLane, TookTurn};
+ghost use Rattle.rounds.specs.ByDepth.{TookTurnByDepth, TookTaking};
 
+use crate::by_depth::take_turn_by_depth;
 use crate::gate::Gate;
 use element::company::{Alone, Company, Four, Together, Two};
+use element::grant_order::GrantOrder;
 use element::instructions::Instructions;
 use element::lane::{Lane, Stepped};
 use packed::token::PackedToken;
 use schedule::halt::Halt;
 use schedule::log::{EventLog, Log};
+use schedule::take::Take;
 use std::alloc::Allocator;
 
 /// A lane with what it made in its turn.
@@ -27,6 +31,8 @@ pub struct Turner<'m, C: Instructions, A: Allocator, L: Log> {
     pub halt: Option<Halt>,
     /// How many turns it began with a token.
     pub blocks: u64,
+    /// In which order it grants requests for frames that it holds back.
+    pub order: GrantOrder<A>,
 }
 
 /// The lane takes its oldest tokens, up to `turn` of them.
@@ -163,8 +169,8 @@ fn may_go_on<C: Instructions, A: Allocator, G: Gate>(
     lane.queue().len() == 0 || gate.go_on(lane.element(), blocks)
 }
 
-/// The element asks the gate, and takes its turn.
-pub fn make_turn<C: Instructions, A: Allocator + Clone, L: Log, G: Gate>(
+// The element asks the gate, and takes its turn.
+fn make_turn<C: Instructions, A: Allocator + Clone, L: Log, G: Gate>(
     turner: &mut Turner<'_, C, A, L>,
     gate: &G,
     turn: u64,
@@ -178,6 +184,7 @@ pub fn make_turn<C: Instructions, A: Allocator + Clone, L: Log, G: Gate>(
         log,
         halt,
         blocks,
+        ..
     } = turner;
     if !may_go_on(lane, gate, *blocks) {
         *halt = Some(Halt::Stop);
@@ -185,4 +192,55 @@ pub fn make_turn<C: Instructions, A: Allocator + Clone, L: Log, G: Gate>(
     }
     *blocks = blocks.wrapping_add(u64::from(lane.queue().len() != 0));
     *halt = take_turn(lane, sent, log, turn);
+}
+
+// The same where the element holds requests for frames back. There are `ordinary` other tokens.
+fn make_turn_by_depth<C: Instructions, A: Allocator + Clone, L: Log, G: Gate>(
+    turner: &mut Turner<'_, C, A, L>,
+    gate: &G,
+    turn: u64,
+    ordinary: u128,
+)
+    requires { ordinary < 2 ^ 80 }
+    ensures { TookTurnByDepth turn ordinary L.KEEPS_EVENTS G.may_stop turner.old turner.new }
+{
+    gate.enter(turner.lane.element());
+    if !may_go_on(&turner.lane, gate, turner.blocks) {
+        turner.halt = Some(Halt::Stop);
+        return;
+    }
+    let has_token = turner.lane.queue().len() != 0;
+    turner.blocks = turner.blocks.wrapping_add(u64::from(has_token));
+    let Turner {
+        lane,
+        sent,
+        log,
+        order,
+        ..
+    } = turner;
+    turner.halt = take_turn_by_depth(lane, order, sent, log, turn, ordinary);
+}
+
+/// The element asks the gate, and takes its turn in the given order of its tokens. There are `ordinary` tokens in all that element 0 does
+/// not hold back, if it holds any back in this order.
+pub fn make_turn_taking<C: Instructions, A: Allocator + Clone, L: Log, G: Gate>(
+    turner: &mut Turner<'_, C, A, L>,
+    gate: &G,
+    turn: u64,
+    take: Take,
+    ordinary: u128,
+)
+    requires { ordinary < 2 ^ 80 }
+    ensures { TookTaking take turn ordinary L.KEEPS_EVENTS G.may_stop turner.old turner.new }
+{
+    match take {
+        Take::Oldest => make_turn(turner, gate, turn),
+        Take::Depth => {
+            if turner.lane.element() == 0 {
+                make_turn_by_depth(turner, gate, turn, ordinary);
+            } else {
+                make_turn(turner, gate, turn);
+            }
+        }
+    }
 }

@@ -20,9 +20,9 @@ returns-clause-made g c =
     (sym c.deref_mut.ensures.len ∙ ap (λ (l : List (Turner g.row.C.Denot g.row.A.Denot g.row.L.Denot)). length l) value)
     (c.make_round.ensures.count ∙ ap (λ (l : List (Turner g.row.C.Denot g.row.A.Denot g.row.L.Denot)). length l) value) in
     subst (λ (l : List (Turner g.row.C.Denot g.row.A.Denot g.row.L.Denot)). OnOk c.make_round.result
-    (MadeRound s g.L.Log.KEEPS_EVENTS g.G.Gate.may_stop old before l after (tokens ++ tokens_sent l))) (sym same)
+    (MadeRound c.args.way.take s g.L.Log.KEEPS_EVENTS g.G.Gate.may_stop old before l after (tokens ++ tokens_sent l))) (sym same)
     (subst (λ (l : List (Turner g.row.C.Denot g.row.A.Denot g.row.L.Denot)). OnOk c.make_round.result
-    (MadeRound s g.L.Log.KEEPS_EVENTS g.G.Gate.may_stop l before new after (tokens ++ tokens_sent new))) value c.make_round.ensures.made)
+    (MadeRound c.args.way.take s g.L.Log.KEEPS_EVENTS g.G.Gate.may_stop l before new after (tokens ++ tokens_sent new))) value c.make_round.ensures.made)
 
 pub returns-clause-all : goal.returns-clause-all
 returns-clause-all g c =

@@ -15,6 +15,6 @@ invariant-rounds g l = record {
   made : Events;
   noted : l.setup.log.events.items ≡ logged g.L.Log.KEEPS_EVENTS l.fn.setup.log.events.items made;
   leads : Leads (setting_in g.C.Instructions.program g.C.Instructions.width l.fn.setup.shape) l.fn.turners.items l.turners.items [] made;
-  makes : MakesRounds (setting_in g.C.Instructions.program g.C.Instructions.width l.fn.setup.shape) g.G.Gate.may_stop l.rounds
+  makes : MakesRounds l.fn.way.take (setting_in g.C.Instructions.program g.C.Instructions.width l.fn.setup.shape) g.G.Gate.may_stop l.rounds
       (lanes_held l.fn.turners.items) (lanes_held l.turners.items) made None;
 }

@@ -12,7 +12,7 @@ use Rattle.element.specs.Holding.{Fixed}
 use Rattle.rounds.specs.declared.turn.Turner.{Turner}
 use Rattle.rounds.specs.Rounds.{lanes_held, lanes_fixed, halts_in, tokens_sent}
 use Rattle.rounds.specs.Counted.{IsWhy}
-use Rattle.rounds.proofs.Closing.{at_all, closed_round, refused_delivering}
+use Rattle.rounds.proofs.Closing.{at_all, closed_round, refused_round, refused_delivering}
 use Rattle.rounds.proofs.rounds.round.Goals as goal
 
 pub deliver_all-requires-clause-at : goal.deliver_all-requires-clause-at
@@ -21,8 +21,16 @@ deliver_all-requires-clause-at g c =
     let made = c.in_ok-all.ensures.made in
     let new = c.make_whole_round.new.turners.items in
     subst (λ (n : ℕ). AllFrom (IsAt n) 0 (lanes_held new)) (sym (ap (λ (x : Setting). x.elements) c.make_whole_round.ensures.setting))
-    (at_all {C = g.row.C.Denot} {A = g.row.A.Denot} {L = g.row.L.Denot} s g.L.Log.KEEPS_EVENTS g.G.Gate.may_stop c.args.turners.now.items new
+    (at_all {C = g.row.C.Denot} {A = g.row.A.Denot} {L = g.row.L.Denot} c.args.way.take s g.L.Log.KEEPS_EVENTS g.G.Gate.may_stop c.args.turners.now.items new
     c.args.setup.now.log.events.items c.make_whole_round.new.setup.log.events.items (c.make_whole_round.new.tokens.items ++ tokens_sent new) made)
+
+pub returns-then-not-all-clause-rounds : goal.returns-then-not-all-clause-rounds
+returns-then-not-all-clause-rounds g c =
+    let s : Setting = setting_in g.C.Instructions.program g.C.Instructions.width c.args.setup.now.shape in
+    let new = c.make_whole_round.new.turners.items in
+    refused_round {C = g.row.C.Denot} {A = g.row.A.Denot} {L = g.row.L.Denot} c.args.way.take s g.L.Log.KEEPS_EVENTS g.G.Gate.may_stop
+    c.args.turners.now.items new c.args.setup.now.log.events.items c.make_whole_round.new.setup.log.events.items
+    (c.make_whole_round.new.tokens.items ++ tokens_sent new) c.in_ok-all.ensures.made
 
 pub returns-in-Ok-clause-rounds : goal.returns-in-Ok-clause-rounds
 returns-in-Ok-clause-rounds g c =
@@ -39,7 +47,7 @@ returns-in-Ok-clause-rounds g c =
     let value = c.deref.ensures.value in
     let why : IsWhy (lanes_held last) (halts_in last) c.why.result = subst (λ (l : List (Turner g.row.C.Denot g.row.A.Denot g.row.L.Denot)). IsWhy
     (lanes_held l) (halts_in l) c.why.result) value c.why.ensures in
-    closed_round {C = g.row.C.Denot} {A = g.row.A.Denot} {L = g.row.L.Denot} s g.L.Log.KEEPS_EVENTS g.G.Gate.may_stop old new
+    closed_round {C = g.row.C.Denot} {A = g.row.A.Denot} {L = g.row.L.Denot} c.args.way.take s g.L.Log.KEEPS_EVENTS g.G.Gate.may_stop old new
     c.args.setup.now.log.events.items c.make_whole_round.new.setup.log.events.items (tokens ++ tokens_sent new) made last got.same.0
     (got.same.1 ∙ ap (λ (l : List Token). delivered l (lanes_held new)) (sym all)) (subst (λ (l : List Fixed). All (RunsAs s) l) (sym h.fixed)
     made.runs) got.same.2 (h.sent ∙ none) (h.events ∙ made.cleared) h.halts c.why.result why
@@ -63,7 +71,7 @@ returns-in-Err-clause-rounds g c =
     let h = c.deliver_all.ensures in
     let none : tokens_sent new ≡ [] = c.in_ok-all.ensures.all (let t = c.if-not-all.false in cc) in
     let all : tokens ++ tokens_sent new ≡ tokens = ap (λ (l : List Token). tokens ++ l) none ∙ append-nil tokens in
-    refused_delivering {C = g.row.C.Denot} {A = g.row.A.Denot} {L = g.row.L.Denot} s g.L.Log.KEEPS_EVENTS g.G.Gate.may_stop c.args.turners.now.items
+    refused_delivering {C = g.row.C.Denot} {A = g.row.A.Denot} {L = g.row.L.Denot} c.args.way.take s g.L.Log.KEEPS_EVENTS g.G.Gate.may_stop c.args.turners.now.items
     new c.args.setup.now.log.events.items c.make_whole_round.new.setup.log.events.items (tokens ++ tokens_sent new) c.in_ok-all.ensures.made
     c.deliver_all.new.turners.items h.same.0
     (h.same.1 ∙ ap (λ (l : List Token). delivered l (lanes_held new)) (sym all))

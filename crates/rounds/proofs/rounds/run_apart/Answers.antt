@@ -20,7 +20,7 @@ returns-in_default g c = record {
       let s : Setting = setting_in g.C.Instructions.program g.C.Instructions.width c.args.setup.shape in
       refused_shows (arriving s (map held_of c.args.lanes.items) []) inputs g.L.Log.KEEPS_EVENTS g.G.Gate.may_stop c.args.setup.log.events.items evs
       c.unmade.result.report c.requires.sound (c.unmade.ensures.report ∙ c.refused.ensures);
-  truth = reports_opening g.L.Log.KEEPS_EVENTS g.G.Gate.may_stop (so_far_of g.C.Instructions.program g.C.Instructions.width c.args.setup
+  truth = reports_opening c.args.way.take g.L.Log.KEEPS_EVENTS g.G.Gate.may_stop (so_far_of g.C.Instructions.program g.C.Instructions.width c.args.setup
       c.args.lanes.items) c.unmade.result.rounds c.unmade.result.report c.unmade.ensures.rounds (c.unmade.ensures.report ∙ c.refused.ensures);
 }
 
@@ -40,7 +40,7 @@ returns-in_default-play g c = record {
       refused_shows (arriving s (map held_of c.args.lanes.items) []) inputs g.L.Log.KEEPS_EVENTS g.G.Gate.may_stop c.args.setup.log.events.items evs
       c.unmade-in_default-play.result.report c.requires.sound (c.unmade-in_default-play.ensures.report ∙ c.refused-in_default-play.ensures
       ∙ ap (λ (x : Setting). opening_picture (outputs_of x.program)) c.play.ensures.setting);
-  truth = reports_opening g.L.Log.KEEPS_EVENTS g.G.Gate.may_stop (so_far_of g.C.Instructions.program g.C.Instructions.width c.args.setup
+  truth = reports_opening c.args.way.take g.L.Log.KEEPS_EVENTS g.G.Gate.may_stop (so_far_of g.C.Instructions.program g.C.Instructions.width c.args.setup
       c.args.lanes.items) c.unmade-in_default-play.result.rounds c.unmade-in_default-play.result.report c.unmade-in_default-play.ensures.rounds
       (c.unmade-in_default-play.ensures.report ∙ c.refused-in_default-play.ensures ∙ ap (λ (x : Setting). opening_picture (outputs_of x.program))
       c.play.ensures.setting);
@@ -51,15 +51,15 @@ returns-in-Ok-lanes_in g c =
     let s : Setting = setting_in g.C.Instructions.program g.C.Instructions.width c.args.setup.shape in
     let now : Setting = setting_in g.C.Instructions.program g.C.Instructions.width c.play.new.setup.shape in
     record {
-      unlisted = end_unlisted {C = g.row.C.Denot} {A = g.row.A.Denot} {L = g.row.L.Denot} s now c.play.ensures.setting g.L.Log.KEEPS_EVENTS
+      unlisted = end_unlisted {C = g.row.C.Denot} {A = g.row.A.Denot} {L = g.row.L.Denot} c.args.way.take s now c.play.ensures.setting g.L.Log.KEEPS_EVENTS
           g.G.Gate.may_stop c.in-Ok-play.played.rounds c.in-Ok.turners.items c.play.new.turners.items c.args.setup.log.events.items
           c.play.new.setup.log.events.items c.in-Ok-play.played.halt c.in-Ok-play.ensures.rounds (map held_of c.lanes_in.new.lanes.items)
           c.in-Ok-lanes_in.ensures c.report.result c.report.ensures.unlisted;
-      shows = end_shows {C = g.row.C.Denot} {A = g.row.A.Denot} {L = g.row.L.Denot} s now c.play.ensures.setting g.L.Log.KEEPS_EVENTS
+      shows = end_shows {C = g.row.C.Denot} {A = g.row.A.Denot} {L = g.row.L.Denot} c.args.way.take s now c.play.ensures.setting g.L.Log.KEEPS_EVENTS
           g.G.Gate.may_stop c.in-Ok-play.played.rounds c.in-Ok.turners.items c.play.new.turners.items c.args.setup.log.events.items
           c.play.new.setup.log.events.items c.in-Ok-play.played.halt c.in-Ok-play.ensures.rounds (map held_of c.lanes_in.new.lanes.items)
           c.in-Ok-lanes_in.ensures (map held_of c.args.lanes.items) c.in-Ok.ensures.lanes c.report.result c.report.ensures.shows c.report.ensures.stopped;
-      truth = end_reports {C = g.row.C.Denot} {A = g.row.A.Denot} {L = g.row.L.Denot} s now c.play.ensures.setting g.L.Log.KEEPS_EVENTS
+      truth = end_reports {C = g.row.C.Denot} {A = g.row.A.Denot} {L = g.row.L.Denot} c.args.way.take s now c.play.ensures.setting g.L.Log.KEEPS_EVENTS
           g.G.Gate.may_stop c.in-Ok-play.played.rounds c.in-Ok.turners.items c.play.new.turners.items c.args.setup.log.events.items
           c.play.new.setup.log.events.items c.in-Ok-play.played.halt c.in-Ok-play.ensures.rounds (map held_of c.lanes_in.new.lanes.items)
           c.in-Ok-lanes_in.ensures (map held_of c.args.lanes.items) c.in-Ok.ensures.lanes c.report.result c.report.ensures.reported;
@@ -74,7 +74,7 @@ returns g c = record {
       refused_shows (arriving s (map held_of c.args.lanes.items) []) inputs g.L.Log.KEEPS_EVENTS g.G.Gate.may_stop c.args.setup.log.events.items evs
       c.unmade-in-Err.result.report c.requires.sound (c.unmade-in-Err.ensures.report ∙ c.refused-in-Err.ensures
       ∙ ap (λ (x : Setting). opening_picture (outputs_of x.program)) c.play.ensures.setting);
-  truth = reports_opening g.L.Log.KEEPS_EVENTS g.G.Gate.may_stop (so_far_of g.C.Instructions.program g.C.Instructions.width c.args.setup
+  truth = reports_opening c.args.way.take g.L.Log.KEEPS_EVENTS g.G.Gate.may_stop (so_far_of g.C.Instructions.program g.C.Instructions.width c.args.setup
       c.args.lanes.items) c.unmade-in-Err.result.rounds c.unmade-in-Err.result.report c.unmade-in-Err.ensures.rounds (c.unmade-in-Err.ensures.report
       ∙ c.refused-in-Err.ensures ∙ ap (λ (x : Setting). opening_picture (outputs_of x.program)) c.play.ensures.setting);
 }
@@ -83,7 +83,7 @@ pub report-requires-clause-sound : goal.report-requires-clause-sound
 report-requires-clause-sound g c =
     let s : Setting = setting_in g.C.Instructions.program g.C.Instructions.width c.args.setup.shape in
     let now : Setting = setting_in g.C.Instructions.program g.C.Instructions.width c.play.new.setup.shape in
-    end_sound {C = g.row.C.Denot} {A = g.row.A.Denot} {L = g.row.L.Denot} s now c.play.ensures.setting g.L.Log.KEEPS_EVENTS g.G.Gate.may_stop
+    end_sound {C = g.row.C.Denot} {A = g.row.A.Denot} {L = g.row.L.Denot} c.args.way.take s now c.play.ensures.setting g.L.Log.KEEPS_EVENTS g.G.Gate.may_stop
     c.in-Ok-play.played.rounds c.in-Ok.turners.items c.play.new.turners.items c.args.setup.log.events.items c.play.new.setup.log.events.items
     c.in-Ok-play.played.halt c.in-Ok-play.ensures.rounds (map held_of c.lanes_in.new.lanes.items) c.in-Ok-lanes_in.ensures
 
@@ -91,6 +91,6 @@ pub report-requires-clause-cell : goal.report-requires-clause-cell
 report-requires-clause-cell g c =
     let s : Setting = setting_in g.C.Instructions.program g.C.Instructions.width c.args.setup.shape in
     let now : Setting = setting_in g.C.Instructions.program g.C.Instructions.width c.play.new.setup.shape in
-    end_cell {C = g.row.C.Denot} {A = g.row.A.Denot} {L = g.row.L.Denot} s now c.play.ensures.setting g.L.Log.KEEPS_EVENTS g.G.Gate.may_stop
+    end_cell {C = g.row.C.Denot} {A = g.row.A.Denot} {L = g.row.L.Denot} c.args.way.take s now c.play.ensures.setting g.L.Log.KEEPS_EVENTS g.G.Gate.may_stop
     c.in-Ok-play.played.rounds c.in-Ok.turners.items c.play.new.turners.items c.args.setup.log.events.items c.play.new.setup.log.events.items
     c.in-Ok-play.played.halt c.in-Ok-play.ensures.rounds (map held_of c.lanes_in.new.lanes.items) c.in-Ok-lanes_in.ensures

@@ -9,7 +9,7 @@ use Rattle.schedule.specs.Runs.{SoFar, Began}
 use Rattle.schedule.specs.Reported.{IsReportOf}
 use Rattle.schedule.specs.Unlisted.{with_events}
 use Rattle.schedule.proofs.Tokens.{delivered_none}
-use Rattle.rounds.specs.Counted.{ReportsRounds}
+use Rattle.rounds.specs.Counted.{ReportsTaking}
 use Rattle.rounds.specs.Rounds.{ShowsOn}
 use Rattle.rounds.proofs.Counting.{reports_none}
 use Rattle.rounds.proofs.Closing.{none_sound, shows_any}
@@ -34,7 +34,7 @@ returns-in-Ok g c =
           → ShowsOn on k.state.setting.program (size k.state.setting) inputs k.state.setting.steps may k.events events r) c.in-Ok.ensures.apart.0
           (λ inputs events b. c.run_apart.ensures.shows inputs events
           (subst (λ (l : List Holding). Began inputs (let x : State = record { setting = s; lanes = l } in x) events) (sym (delivered_none raw)) b));
-      truth = subst (λ (k : SoFar). ReportsRounds on may k n r) c.in-Ok.ensures.apart.0 c.run_apart.ensures.truth;
+      truth = subst (λ (k : SoFar). ReportsTaking c.args.way.take on may k n r) c.in-Ok.ensures.apart.0 c.run_apart.ensures.truth;
     }
 
 pub returns-in-Err : goal.returns-in-Err
@@ -54,7 +54,7 @@ returns-in-Err g c =
           let but = c.report.ensures.any inputs false events b tt in
           subst (λ (x : Report). ShowsOn on z.program (size z) inputs z.steps may c.in-Err.machine.events events x) same
           (but.0, shows_any z.program (size z) inputs z.steps false may (with_events reported but.0) but.1, λ yes e. but.2 e));
-      truth = subst (λ (k : SoFar). ReportsRounds on may k c.unmade.result.rounds r) c.in-Err.ensures.apart
-          (reports_none on may c.in-Err.machine c.unmade.result.rounds r c.unmade.ensures.rounds
+      truth = subst (λ (k : SoFar). ReportsTaking c.args.way.take on may k c.unmade.result.rounds r) c.in-Err.ensures.apart
+          (reports_none c.args.way.take on may c.in-Err.machine c.unmade.result.rounds r c.unmade.ensures.rounds
           (subst (λ (x : Report). IsReportOf c.in-Err.machine Halt.Memory x) same c.report.ensures.reported));
     }

@@ -23,7 +23,7 @@ events-preserved g c =
     let few : old.held.made < start.steps = omega arith in
     let fixed = c.step.ensures.fixed ∙ inv.fixed in
     let sound = subst (λ (p : Program). IsSoundLane p next.held) (ap (λ (f : Fixed). f.program) fixed) c.step.ensures.sound in
-    let token = one_token old.held does.token c.in-Some.token does.picks c.in-Some.ensures.some in
+    let token = one_token old.held 0 does.token c.in-Some.token does.picks c.in-Some.ensures.some in
     let element : c.element.result ≡ start.held.part.shape.element = c.element.ensures ∙ ap (λ (f : Fixed). f.shape.element) fixed in
     record {
       sound = λ _. c.step.ensures.sound;

@@ -1,10 +1,10 @@
 use Rattle.std.proofs.Common.{refl, sym, ap, subst, [], false}
 use Rattle.schedule.specs.Setting.{size}
 use Rattle.schedule.specs.Runs.{SoFar, Began}
-use Rattle.rounds.specs.Counted.{ReportsRounds}
+use Rattle.rounds.specs.Counted.{ReportsTaking}
 use Rattle.rounds.specs.Rounds.{ShowsOn}
 use Rattle.rounds.proofs.Closing.{reported_quietly}
-use Rattle.rounds.proofs.rounds.run_quietly.Goals as goal
+use Rattle.rounds.proofs.rounds.run_quietly_taking.Goals as goal
 
 pub returns : goal.returns
 returns g c =
@@ -18,5 +18,5 @@ returns g c =
       shows = λ inputs b. reported_quietly z.program (size z) inputs z.steps may [] m.events r none
           (subst (λ (k : SoFar). ShowsOn false k.state.setting.program (size k.state.setting) inputs k.state.setting.steps may k.events m.events r) same
           (c.run_machine.ensures.shows inputs m.events (subst (λ (k : SoFar). Began inputs k.state m.events) (sym same) b)));
-      truth = (c.run_machine.result.rounds, subst (λ (k : SoFar). ReportsRounds false may k c.run_machine.result.rounds r) same c.run_machine.ensures.truth);
+      truth = (c.run_machine.result.rounds, subst (λ (k : SoFar). ReportsTaking c.args.take false may k c.run_machine.result.rounds r) same c.run_machine.ensures.truth);
     }

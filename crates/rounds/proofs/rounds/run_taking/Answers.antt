@@ -1,4 +1,4 @@
-use Rattle.rounds.proofs.rounds.run.Goals as goal
+use Rattle.rounds.proofs.rounds.run_taking.Goals as goal
 
 pub returns : goal.returns
 returns g c = record {
