@@ -372,7 +372,9 @@ async function link() {
   return '#1' + btoa(String.fromCharCode(...bytes)).replace(/\+/g, '-').replace(/\//g, '_').replace(/=+$/, '');
 }
 
+// Writes the link of what there is now, a moment later. Until the page is ready its address is what was asked for.
 function save() {
+  if (!document.documentElement.dataset.ready) return;
   clearTimeout(saving);
   saving = setTimeout(async () => history.replaceState(null, '', await link()), 300);
 }
