@@ -179,7 +179,7 @@ impl<A: Allocator> GrantOrder<A> {
         best
     }
 
-    /// Makes room for so many requests that are held back. After an error nothing is changed.
+    /// Forgets the requests that are held back, and makes room for so many. After an error there is as much room as before.
     pub fn make_room_held(&mut self, requests: usize) -> Result<(), AllocError> {
         self.held.clear();
         self.number = 0;
