@@ -1,6 +1,6 @@
 -- What an input gives, or why it does not, stated of the commands that read it.
 use Rattle.std.proofs.Common.{Option, ◌≡◌, ℕ, ℤ, List, Bool, true, false, inl, inr, ◌⊎◌, Result, Ok, Err, refl, sym, subst}
-use Rattle.std.specs.Prelude.{Some, None}
+use Rattle.std.specs.Prelude.{Some, None, is_some}
 use Rattle.semantics.specs.Graph.{Graph}
 use Rattle.semantics.specs.Report.{Report}
 use Rattle.schedule.specs.declared.config.Config.{Config}
@@ -28,7 +28,7 @@ use Rattle.commands.specs.Agreed.{HasNoOrder, IsNoOrderOf, WhyNoOrder}
 use Rattle.commands.specs.Traced.{IsTraceOf, IsPageOf}
 use Rattle.commands.specs.Profiled.{IsNoProfileOf, IsProfileOf, WhyNoProfile, IsNoRow, LacksOrder, AreRows, IsSufficient, sizes_below}
 use Rattle.profile_text.specs.declared.sufficient.Sufficient.{Sufficient}
-use Rattle.commands.specs.Served.{Parts, IsReportedAs, IsRunOf, IsNoRunOf, IsRefusedLine, WhyNoRun, config_of, is_order, order_in}
+use Rattle.commands.specs.Served.{Parts, IsReportedAs, IsRunOf, IsNoRunOf, IsRefusedLine, WhyNoRun, config_of, order_in}
 
 -- a cause that the integers decide, where there are none
 abbrev Bad : (parts : List ℕ) → Result (List ℤ) ℕ → Refusal → Type 0
@@ -181,7 +181,7 @@ module _ (input text : List ℕ) (inputs : List ℤ) (feed : IsFeed input text i
   pub profile_of : (o : RunOptions) (s : Sizes) (format : ProfileFormat) (g : Graph) (e : MeanEnd) (counts : List ℕ) (rows : List MachineRow)
       (enough : Option Sufficient)
       → IsGoodText text g → AreWavesOf g inputs o.steps e counts → wave_counts g inputs o.steps ≡ Some (e, counts)
-      → (format ≡ ProfileFormat.Lines → is_order o.take ≡ true)
+      → (format ≡ ProfileFormat.Lines → is_some o.take ≡ true)
       → (format ≡ ProfileFormat.Lines → AreRows text inputs o (sizes_below s 64) rows)
       → (format ≡ ProfileFormat.Lines → IsSufficient g inputs o.steps enough) → IsProfileOf input o s format g e counts rows enough
   profile_of o s format g e counts rows enough good waves reported ordered machine sufficient = record {

@@ -1,6 +1,6 @@
 -- What `profile` prints: the waves of a graph's meaning, and what the machine took with each number of elements.
 use Rattle.std.specs.Prelude.{◌≡◌, ◌≢◌, ℕ, zero, suc, ◌+◌, ◌<◌, ◌==◌, Bool, true, false, ℤ, ◌⊎◌, List, [], ◌∷◌, ◌++◌, length, map, Option, Some, None, Result}
-use Rattle.std.specs.Prelude.{Ok, Err, if◌then◌else◌, nat_lt, ⊤}
+use Rattle.std.specs.Prelude.{Ok, Err, if◌then◌else◌, nat_lt, is_some, ⊤}
 use Rattle.semantics.specs.Graph.{Graph}
 use Rattle.semantics.specs.declared.report.End.{End}
 use Rattle.semantics.specs.Report.{Report}
@@ -28,7 +28,7 @@ use Rattle.commands.specs.declared.profiling.ProfileFormat.{ProfileFormat}
 use Rattle.commands.specs.declared.profiling.Quantity.{Quantity}
 use Rattle.outcomes.specs.declared.refusal.Refusal.{Refusal}
 use Rattle.commands.specs.Input.{integers_of}
-use Rattle.commands.specs.Served.{Parts, Prints, Refuses, IsReportedAs, IsRefusedLine, config_of, is_order}
+use Rattle.commands.specs.Served.{Parts, Prints, Refuses, IsReportedAs, IsRefusedLine, config_of, token_order}
 use Rattle.outcomes.specs.Outcomes.{exit_status}
 use Rattle.outcomes.specs.declared.outcome.Ending.{Ending}
 use Rattle.outcomes.specs.declared.outcome.FailedRow.{FailedRow}
@@ -45,19 +45,19 @@ quantity_in Quantity.Tokens x = x.tokens
 quantity_in Quantity.Slots x = x.full_slots
 quantity_in Quantity.Frames x = x.frames_out
 
--- What a run on that number of elements took: it is a run in rounds, in each of which every element makes one event if it has a token; these are exactly its
--- rounds, and the tokens, the full slots and the frames out are the most that there were at any moment. At the start there are a token
+-- What a run on that number of elements took: it is a run in rounds, in each of which every element makes one event if it has a token that it may take in the order
+-- that is asked for; these are exactly its rounds, and the tokens, the full slots and the frames out are the most that there were at any moment. At the start there are a token
 -- for each input and one more, and one frame is out. The end, and the requests that wait then, are those of its report.
 pub record IsRow (text : List ℕ) (inputs : List ℤ) (o : RunOptions) (elements : ℕ) (row : MachineRow) : Type 0 where
   pub graph : Graph
   pub bytes : List ℕ
   pub report : Report
   pub moments : List Moment
-  pub watched : IsWatched Order.InRounds text graph bytes inputs (config_with o elements) false report moments
+  pub watched : IsWatched (Order.InRounds (token_order o.take)) text graph bytes inputs (config_with o elements) false report moments
   -- a run that was refused memory has no row
   pub kept : report.end ≢ End.Memory
   pub number : row.elements ≡ elements
-  pub rounds : RunsObject bytes inputs (config_with o elements) (RunsByRounds false row.rounds) report
+  pub rounds : RunsObject bytes inputs (config_with o elements) (RunsByRounds (token_order o.take) false row.rounds) report
   pub tokens : row.tokens ≡ greatest_from (length inputs + 1) (map (quantity_in Quantity.Tokens) moments)
   pub slots : row.slots ≡ greatest_from 0 (map (quantity_in Quantity.Slots) moments)
   pub frames : row.frames ≡ greatest_from 1 (map (quantity_in Quantity.Frames) moments)
@@ -88,10 +88,10 @@ pub record IsNoRow (text : List ℕ) (inputs : List ℤ) (o : RunOptions) (z : S
   pub rows : List MachineRow
   pub earlier : AreRows text inputs o (sizes_below z elements) rows
 
--- No machine takes its tokens in the order that is asked for, which is reported only where a run is ready.
+-- The order that is asked for does not exist, which is reported only where a run is ready.
 abbrev pub LacksOrder : List ℕ → List ℤ → RunOptions → Refusal → Type 0
 LacksOrder text inputs o f =
-    (is_order o.take ≡ false)
+    (is_some o.take ≡ false)
     × (IsReportedAs (IsRefused text inputs (config_of o)) f ⊎ (IsReady text inputs (config_of o) × (f ≡ Refusal.Start StartFault.BadConfig)))
 
 -- WHAT SUFFICES in every order, as it is printed: nothing, where no loop's bound can be as many as the iterations.
@@ -119,7 +119,7 @@ pub record IsProfileOf (input : List ℕ) (o : RunOptions) (z : Sizes) (format :
   pub waves : AreWavesOf g inputs o.steps end counts
   -- and they are the ones that the definition gives, which finds all that is enabled and then does it
   pub reported : wave_counts g inputs o.steps ≡ Some (end, counts)
-  pub ordered : format ≡ ProfileFormat.Lines → is_order o.take ≡ true
+  pub ordered : format ≡ ProfileFormat.Lines → is_some o.take ≡ true
   pub machine : format ≡ ProfileFormat.Lines → AreRows text inputs o (sizes_below z 64) rows
   pub sufficient : format ≡ ProfileFormat.Lines → IsSufficient g inputs o.steps enough
 

@@ -19,6 +19,7 @@ use Rattle.report_text.specs.ReportText.{report_text, meaning_text, object_repor
 use Rattle.command_line.specs.declared.Mode.{Mode}
 use Rattle.command_line.specs.declared.RunOptions.{RunOptions}
 use Rattle.command_line.specs.declared.Take.{Take}
+use Rattle.schedule.specs.declared.take.Take.{Take as Tokens}
 use Rattle.schedule.specs.declared.take.Take.TheVariants as tokens
 use Rattle.driver.specs.declared.order.Order.{Order}
 use Rattle.driver.specs.Orders.{order_of}
@@ -67,16 +68,22 @@ turn_of o = unwrap_or o.turn (usual_turn o.mode)
 abbrev pub config_of : RunOptions → Config
 config_of o = record { elements = o.elements; frames = o.frames; steps = o.steps; turn = turn_of o }
 
--- whether runs in rounds, and runs in random orders, take tokens in this order: none takes them by depth yet
+-- whether runs in random orders take tokens in this order: none takes them by depth
 abbrev pub is_order : Option Take → Bool
 is_order (Some Take.Oldest) = true
 is_order (Some Take.Depth) = false
 is_order None = false
 
+-- the order of the tokens that is asked for; the oldest first, where the word names none
+abbrev pub token_order : Option Take → Tokens
+token_order (Some Take.Oldest) = tokens.Oldest
+token_order (Some Take.Depth) = tokens.Depth
+token_order None = tokens.Oldest
+
 -- by depth, where this mode exists and there are such runs in it
 abbrev pub by_depth : Option Mode → Option Order
 by_depth (Some Mode.One) = Some (Order.InTurn tokens.Depth)
-by_depth (Some Mode.Rounds) = None
+by_depth (Some Mode.Rounds) = Some (Order.InRounds tokens.Depth)
 by_depth (Some Mode.Free) = None
 by_depth None = None
 

@@ -1,19 +1,19 @@
 //! How much parallelism a graph has.
 
-ghost use Rattle.std.specs.Prelude.{◌≡◌, ◌≢◌, ◌+◌, ◌⊎◌, ℕ, List, [], false, true, length, map, IfErr, IfNone, IfOk, IfSome, MatchResult};
+ghost use Rattle.std.specs.Prelude.{◌≡◌, ◌≢◌, ◌+◌, ◌⊎◌, ℕ, List, [], false, true, length, map, IfErr, IfNone, IfOk, IfSome, MatchResult, is_some};
 ghost use Rattle.semantics.specs.Graph.{Graph};
 ghost use Rattle.profile_text.specs.Picture.{greatest_from};
 ghost use Rattle.semantics.specs.declared.report.End.{End};
 ghost use Rattle.sink.specs.Sends.{Sends};
 ghost use Rattle.outcomes.specs.declared.refusal.Refusal.{Refusal as AsRefusal};
 ghost use Rattle.driver.specs.Refused.{IsCompiled, IsGoodText, IsRefused};
-ghost use Rattle.commands.specs.Served.{IsReportedAs, is_order};
+ghost use Rattle.commands.specs.Served.{IsReportedAs};
 ghost use Rattle.commands.specs.Profiled.{AreRows, IsChosen, IsNoProfileOf, IsNoRow, IsProfileOf, IsRow, IsSufficient, LacksOrder, PrintsProfile};
 ghost use Rattle.commands.specs.Profiled.{config_with, format_of, quantity_in, profiled, sizes_below, sufficient_of, text_of, first_failed};
 
 use crate::feed::{option_refusal, read_feed};
 use crate::refusal::fault_refusal;
-use crate::serving::{config_of, is_order, refuse};
+use crate::serving::{config_of, refuse, token_order};
 use command_line::{RunOptions, Sizes};
 use driver::compiling::compile_graph;
 use driver::meaning::{Waved, waves_text};
@@ -140,7 +140,7 @@ fn wants_memory<A: Allocator>(report: &Report<A>) -> bool
     matches!(report.end, End::Memory)
 }
 
-/// The row of the object's run in rounds on this number of elements, which asks no gate. A run that was refused memory has none.
+/// The row of the object's run in rounds on this number of elements, in the order of the tokens that is asked for, which asks no gate. A run that was refused memory has none.
 fn measure<R: Threads + Wait + Sync, A: Allocator + Clone + Send + Sync, G: Gate + Sync>(
     resources: &Resources<'_, A, R, G>,
     code: &Loaded<'_, A>,
@@ -161,7 +161,13 @@ fn measure<R: Threads + Wait + Sync, A: Allocator + Clone + Send + Sync, G: Gate
         rt,
         gate: &Open,
     };
-    let WatchedRounds { watched, rounds } = match watch_rounds(ungated, code, inputs, config) {
+    let WatchedRounds { watched, rounds } = match watch_rounds(
+        ungated,
+        code,
+        inputs,
+        config,
+        token_order(options.take),
+    ) {
         Ok(counted) => counted,
         Err(fault) => return Err(fault_refusal(fault)),
     };
@@ -267,7 +273,7 @@ fn rows_beside<'a, R: Threads + Wait + Sync, A: Allocator + Clone + Send + Sync,
     }
 }
 
-/// The refusal of rows whose machines take their tokens in no order that there is: an earlier cause of refusal, if there is one, or else that.
+/// The refusal of rows in an order of the tokens that does not exist: an earlier cause of refusal, if there is one, or else that.
 fn order_refusal<R: Threads + Wait + Sync, A: Allocator + Clone + Send + Sync, G: Gate + Sync>(
     resources: &Resources<'_, A, R, G>,
     text: &[u8],
@@ -276,9 +282,9 @@ fn order_refusal<R: Threads + Wait + Sync, A: Allocator + Clone + Send + Sync, G
     format: ProfileFormat,
 ) -> Option<Refusal>
     ensures some { IfSome result (λ f. (f ≡ AsRefusal.Memory) ⊎ ((format ≡ ProfileFormat.Lines) × LacksOrder text.now inputs.now options.now f)) }
-    ensures none { IfNone result (format ≡ ProfileFormat.Lines → is_order options.now.take ≡ true) }
+    ensures none { IfNone result (format ≡ ProfileFormat.Lines → is_some options.now.take ≡ true) }
 {
-    if is_order(options.take) {
+    if options.take.is_some() {
         return None;
     }
     match format {

@@ -3,7 +3,7 @@
 ghost use Rattle.std.specs.Prelude.{◌≡◌, MatchResult, None, drop, false, map};
 ghost use Rattle.object_view.specs.Checks.{first_refusal};
 ghost use Rattle.driver.specs.Disassembled.{listing_of, listing_with_literals_of, picture_of, upgrade_of};
-ghost use Rattle.commands.specs.Served.{by_depth, config_of, is_order, order_in, turn_of, IsRunOf, IsNoRunOf, IsMeaningOf, IsNoMeaningOf, Refuses, PrintsRun, PrintsMeaning, PrintsCheck};
+ghost use Rattle.commands.specs.Served.{by_depth, config_of, is_order, order_in, token_order, turn_of, IsRunOf, IsNoRunOf, IsMeaningOf, IsNoMeaningOf, Refuses, PrintsRun, PrintsMeaning, PrintsCheck};
 ghost use Rattle.commands.specs.Served.{PrintsObject, PrintsOf, PrintsPicture, PrintsExec, IsExecOf, IsNoExecOf, Prints};
 ghost use Rattle.commands.specs.Answered.{Answers, ServesRequest, Says, ServesAsked, ServesWords, Serves};
 
@@ -79,11 +79,21 @@ pub(crate) fn config_of(options: &RunOptions) -> Config
     }
 }
 
-/// Whether runs in rounds, and runs in random orders, take tokens in this order. None takes them by depth yet.
+/// Whether runs in random orders take tokens in this order. None takes them by depth.
 pub(crate) fn is_order(take: Option<Take>) -> bool
     ensures { result ≡ is_order take }
 {
     matches!(take, Some(Take::Oldest))
+}
+
+/// The order of the tokens that is asked for; the oldest first, where the word names none.
+pub(crate) fn token_order(take: Option<Take>) -> TokenOrder
+    ensures { result ≡ token_order take }
+{
+    match take {
+        Some(Take::Depth) => TokenOrder::Depth,
+        Some(Take::Oldest) | None => TokenOrder::Oldest,
+    }
 }
 
 /// The order by depth, where this mode exists and there are such runs in it.
@@ -92,7 +102,7 @@ fn by_depth(mode: Option<Mode>) -> Option<Order>
 {
     match mode {
         Some(Mode::One) => Some(Order::InTurn(TokenOrder::Depth)),
-        Some(Mode::Rounds) => None,
+        Some(Mode::Rounds) => Some(Order::InRounds(TokenOrder::Depth)),
         Some(Mode::Free) => None,
         None => None,
     }

@@ -17,7 +17,7 @@ use Rattle.schedule.specs.Turns.{AreInTurn}
 use Rattle.schedule.specs.Unlisted.{with_events, ShowsQuietly, Quietly, RunsTaking}
 use Rattle.schedule.proofs.Showing.{shown}
 use Rattle.driver.specs.declared.order.Order.{Order}
-use Rattle.rounds.specs.Counted.{ReportsRounds}
+use Rattle.rounds.specs.Counted.{ReportsTaking}
 use Rattle.driver.specs.Headline.{stops_in}
 use Rattle.driver.specs.Objects.{ShowsObject, ShowsObjectIn, RunsObject, StartsObject}
 use Rattle.driver.specs.Orders.{size_of, RunsBy, RunsByTurns, RunsByList, RunsByRounds}
@@ -119,9 +119,9 @@ module _ (bytes : List ℕ) (inputs : List ℤ) (c : Config) (k : SoFar) (s : St
     reported = t.reported;
   })
 
-  pub runs_by_rounds : (may_stop : Bool) (rounds : ℕ) (r : Report) → ReportsRounds true may_stop k rounds r
-      → RunsObject bytes inputs c (RunsByRounds may_stop rounds) r
-  runs_by_rounds may_stop rounds r truth = runs (RunsByRounds may_stop rounds) r (record { width = s.width; start = k; opens = s.opens; truth = truth })
+  pub runs_by_rounds : (take : Take) (may_stop : Bool) (rounds : ℕ) (r : Report) → ReportsTaking take true may_stop k rounds r
+      → RunsObject bytes inputs c (RunsByRounds take may_stop rounds) r
+  runs_by_rounds take may_stop rounds r truth = runs (RunsByRounds take may_stop rounds) r (record { width = s.width; start = k; opens = s.opens; truth = truth })
 
   -- QUIETLY. In each mode: the run in turns that is shown is the one that is followed.
   pub shows_in_quietly : (order : Order) (may_stop : Bool) (r : Report)
@@ -133,5 +133,5 @@ module _ (bytes : List ℕ) (inputs : List ℤ) (c : Config) (k : SoFar) (s : St
       let x : Report = with_events r q.1 in
       let t : RunsTaking take k x = q.2 in
       (q.0, q.1, (shown_object false false x (t.shows inputs s.opens.began), runs_by_turns take x t))
-  shows_in_quietly Order.InRounds may_stop r shows turns = shows_object_quietly false may_stop r shows
+  shows_in_quietly (Order.InRounds take) may_stop r shows turns = shows_object_quietly false may_stop r shows
   shows_in_quietly Order.Free may_stop r shows turns = shows_object_quietly false may_stop r shows

@@ -1,4 +1,4 @@
--- The order of the tokens where the elements take turns.
+-- The order of the tokens.
 use Rattle.std.proofs.Common.{◌≡◌, sym, ap, ◌∙◌}
 use Rattle.schedule.specs.declared.take.Take.{Take}
 use Rattle.schedule.specs.declared.take.Take.TheVariants.{Oldest}
@@ -6,7 +6,7 @@ use Rattle.driver.specs.declared.order.Order.{Order}
 
 taken : Order → Take
 taken (Order.InTurn take) = take
-taken Order.InRounds = Oldest
+taken (Order.InRounds take) = take
 taken Order.Free = Oldest
 
 -- an order in turn has one order of the tokens

@@ -169,7 +169,7 @@ pub reports_in : (order : Order) (text : List ℕ) (g : Graph) (bytes : List ℕ
     → ((way : Take) → order ≡ Order.InTurn way → RunsObject bytes inputs c (RunsByTurns way) r) → ReportsTruthIn order text g inputs c may_stop r
 reports_in (Order.InTurn way) text g bytes inputs c may_stop r compiled shown runs =
     reports_in_turn way text g bytes inputs c r compiled shown (runs way refl)
-reports_in Order.InRounds text g bytes inputs c may_stop r compiled shown runs = reports_truth text g bytes inputs c false may_stop r compiled shown
+reports_in (Order.InRounds take) text g bytes inputs c may_stop r compiled shown runs = reports_truth text g bytes inputs c false may_stop r compiled shown
 reports_in Order.Free text g bytes inputs c may_stop r compiled shown runs = reports_truth text g bytes inputs c false may_stop r compiled shown
 
 -- So does a report that lists no events.
@@ -177,7 +177,7 @@ pub reports_quietly : (order : Order) (text : List ℕ) (g : Graph) (bytes : Lis
     → IsCompiled text g bytes → Quietly (ShowsObjectIn order bytes inputs c may_stop) r → ReportsQuietly order text g inputs c may_stop r
 reports_quietly (Order.InTurn way) text g bytes inputs c may_stop r compiled (none, events, shown) =
     ((shown.0).good, (shown.0).some_frame, (none, events, reports_in_turn way text g bytes inputs c (with_events r events) compiled shown.0 shown.1))
-reports_quietly Order.InRounds text g bytes inputs c may_stop r compiled (none, events, shown) =
+reports_quietly (Order.InRounds take) text g bytes inputs c may_stop r compiled (none, events, shown) =
     (shown.good, shown.some_frame, (none, events, reports_truth text g bytes inputs c false may_stop (with_events r events) compiled shown))
 reports_quietly Order.Free text g bytes inputs c may_stop r compiled (none, events, shown) =
     (shown.good, shown.some_frame, (none, events, reports_truth text g bytes inputs c false may_stop (with_events r events) compiled shown))
@@ -193,8 +193,8 @@ is_watched order text g bytes inputs c may_stop r moments compiled shown runs se
   seen = seen;
 }
 
-pub is_watched_in_rounds : (text : List ℕ) (g : Graph) (bytes : List ℕ) (inputs : List ℤ) (c : Config) (may_stop : Bool) (r : Report) (moments : List Moment)
+pub is_watched_in_rounds : (take : Take) (text : List ℕ) (g : Graph) (bytes : List ℕ) (inputs : List ℤ) (c : Config) (may_stop : Bool) (r : Report) (moments : List Moment)
     → IsCompiled text g bytes → ShowsObject bytes inputs c false may_stop r → AreMoments bytes inputs c r moments
-    → IsWatched Order.InRounds text g bytes inputs c may_stop r moments
-is_watched_in_rounds text g bytes inputs c may_stop r moments compiled shown seen =
-    is_watched Order.InRounds text g bytes inputs c may_stop r moments compiled shown (λ way one. absurd (let no : ⊥ = cc in no)) seen
+    → IsWatched (Order.InRounds take) text g bytes inputs c may_stop r moments
+is_watched_in_rounds take text g bytes inputs c may_stop r moments compiled shown seen =
+    is_watched (Order.InRounds take) text g bytes inputs c may_stop r moments compiled shown (λ way one. absurd (let no : ⊥ = cc in no)) seen

@@ -13,7 +13,7 @@ use Rattle.schedule.specs.Starts.{Opens}
 use Rattle.schedule.specs.Runs.{SoFar, Plays, rounds_of}
 use Rattle.schedule.specs.Turns.{AreInTurn, PlaysTurns}
 use Rattle.schedule.specs.Reported.{IsReportOf}
-use Rattle.rounds.specs.Counted.{ReportsRounds}
+use Rattle.rounds.specs.Counted.{ReportsTaking}
 
 -- the machine that a configuration asks for: its elements, each with its frames
 abbrev pub size_of : Config → Size
@@ -56,15 +56,15 @@ RunsByTurns Depth p c inputs r = RunsByDepth p c inputs r
 abbrev pub RunsByList : List (ℕ × ℕ) → Program → Config → List ℤ → Report → Type 0
 RunsByList picks p c inputs r = RunsBy p c inputs true picks r
 
--- the run makes exactly this number of rounds: in each every element makes a turn of the events that the configuration says
-pub record RunsByRounds (may_stop : Bool) (rounds : ℕ) (p : Program) (c : Config) (inputs : List ℤ) (r : Report) : Type 0 where
+-- The run makes exactly this number of rounds: in each every element makes a turn of the events that the configuration says, with its tokens in this order.
+pub record RunsByRounds (take : Take) (may_stop : Bool) (rounds : ℕ) (p : Program) (c : Config) (inputs : List ℤ) (r : Report) : Type 0 where
   pub width : ℕ
   pub start : SoFar
   pub opens : Opens p width c inputs start
-  pub truth : ReportsRounds true may_stop start rounds r
+  pub truth : ReportsTaking take true may_stop start rounds r
 
--- the order of a mode; of the elements in turn, with this order of their tokens
+-- the order of a mode, with this order of their tokens where the elements take turns or make rounds
 abbrev pub order_of : Mode → Take → Order
 order_of Mode.One take = Order.InTurn take
-order_of Mode.Rounds take = Order.InRounds
+order_of Mode.Rounds take = Order.InRounds take
 order_of Mode.Free take = Order.Free

@@ -10,8 +10,8 @@ ghost use Rattle.driver.specs.declared.order.Order.{Order};
 ghost use Rattle.driver.specs.Headline.{stops_in};
 
 use crate::order::Order;
-use machine::{run as run_free, run_quietly as run_free_quietly};
-use rounds::{Gate, run, run_quietly};
+use machine::{run, run_quietly};
+use rounds::{Gate, run_quietly_taking, run_taking};
 use schedule::machine::Machine;
 use schedule::main_code::MainCode;
 use schedule::report::Report;
@@ -32,8 +32,8 @@ pub fn run_in<
 {
     match order {
         Order::InTurn(take) => machine.run_in_turn(take),
-        Order::InRounds => run(machine, rt, gate),
-        Order::Free => run_free(machine, rt, gate),
+        Order::InRounds(take) => run_taking(machine, rt, gate, take),
+        Order::Free => run(machine, rt, gate),
     }
 }
 
@@ -50,7 +50,7 @@ pub fn run_quietly_in<
 {
     match order {
         Order::InTurn(take) => machine.run_quietly_in_turn(take),
-        Order::InRounds => run_quietly(machine, rt, gate),
-        Order::Free => run_free_quietly(machine, rt, gate),
+        Order::InRounds(take) => run_quietly_taking(machine, rt, gate, take),
+        Order::Free => run_quietly(machine, rt, gate),
     }
 }

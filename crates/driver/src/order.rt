@@ -11,20 +11,20 @@ use schedule::take::Take;
 pub enum Order {
     /// The elements take turns on one thread, one event each, and take their tokens in this order.
     InTurn(Take),
-    /// In rounds, each element in a thread of its own.
-    InRounds,
+    /// In rounds, each element in a thread of its own. They take their tokens in this order.
+    InRounds(Take),
     /// Free, each element in a thread of its own for the whole run.
     Free,
 }
 
 impl Order {
-    /// The order of this mode; of the elements in turn, with this order of their tokens.
+    /// The order of this mode, with this order of their tokens where the elements take turns or make rounds. A free run takes the oldest.
     pub fn in_mode(mode: Mode, take: Take) -> Order
         ensures { result ≡ order_of mode take }
     {
         match mode {
             Mode::One => Order::InTurn(take),
-            Mode::Rounds => Order::InRounds,
+            Mode::Rounds => Order::InRounds(take),
             Mode::Free => Order::Free,
         }
     }

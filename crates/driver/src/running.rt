@@ -18,10 +18,11 @@ use crate::resources::Resources;
 use frame_store::store::Store;
 use loaded::Loaded;
 use object_view::Object;
-use rounds::{Counted, Gate, run_counted};
+use rounds::{Counted, Gate, run_counted_taking};
 use schedule::config::Config;
 use schedule::machine::Machine;
 use schedule::report::Report;
+use schedule::take::Take;
 use std::alloc::Allocator;
 use std::sync::Wait;
 use std::thread::Threads;
@@ -126,7 +127,7 @@ pub fn run_code_picks<A: Allocator + Clone>(
     Ok(machine.run(picks))
 }
 
-/// The report of a run of the object in rounds, and how many rounds it made.
+/// The report of a run of the object in rounds, in this order of the tokens, and how many rounds it made.
 pub fn run_code_counted<
     R: Threads + Wait + Sync,
     A: Allocator + Clone + Send + Sync,
@@ -136,13 +137,14 @@ pub fn run_code_counted<
     code: &Loaded<'_, A>,
     inputs: &[i64],
     config: Config,
+    take: Take,
 ) -> Result<Counted<A>, Fault>
     ensures shows { MatchResult result (λ c. ShowsObject code.now.bytes inputs.now config false G.may_stop c.report)
         (IsRefusedObject code.now.bytes inputs.now config) }
-    ensures rounds { IfOk result (λ c. RunsObject code.now.bytes inputs.now config (RunsByRounds G.may_stop c.rounds) c.report) }
+    ensures rounds { IfOk result (λ c. RunsObject code.now.bytes inputs.now config (RunsByRounds take G.may_stop c.rounds) c.report) }
 {
     let Resources { alloc, rt, gate } = resources;
     let mut store = None;
     let machine = start_code(alloc, &mut store, code, inputs, config)?;
-    Ok(run_counted(machine, rt, gate))
+    Ok(run_counted_taking(machine, rt, gate, take))
 }

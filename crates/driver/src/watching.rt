@@ -20,6 +20,7 @@ use rounds::{Counted, Gate};
 use schedule::config::Config;
 use schedule::main_code::MainCode;
 use schedule::report::Report;
+use schedule::take::Take;
 use std::alloc::{AllocError, Allocator};
 use std::sync::Wait;
 use std::thread::Threads;
@@ -99,20 +100,21 @@ pub struct WatchedRounds<A: Allocator> {
     pub rounds: u64,
 }
 
-/// Runs the object in rounds, lists the events, and says what each of them did, and how many rounds there were.
+/// Runs the object in rounds, in this order of the tokens, lists the events, and says what each of them did, and how many rounds there were.
 pub fn watch_rounds<R: Threads + Wait + Sync, A: Allocator + Clone + Send + Sync, G: Gate + Sync>(
     resources: Resources<'_, A, R, G>,
     code: &Loaded<'_, A>,
     inputs: &[i64],
     config: Config,
+    take: Take,
 ) -> Result<WatchedRounds<A>, Fault>
     ensures shows { MatchResult result (λ w. ShowsObject code.now.bytes inputs.now config false G.may_stop w.watched.report)
         (IsRefusedObject code.now.bytes inputs.now config) }
-    ensures rounds { IfOk result (λ w. RunsObject code.now.bytes inputs.now config (RunsByRounds G.may_stop w.rounds) w.watched.report) }
+    ensures rounds { IfOk result (λ w. RunsObject code.now.bytes inputs.now config (RunsByRounds take G.may_stop w.rounds) w.watched.report) }
     ensures moments { IfOk result (λ w. AreMoments code.now.bytes inputs.now config w.watched.report w.watched.moments.items) }
 {
     let alloc = resources.alloc.clone()?;
-    let counted = run_code_counted(resources, code, inputs, config)?;
+    let counted = run_code_counted(resources, code, inputs, config, take)?;
     let Counted { report, rounds } = counted;
     let moments = moments_of(alloc, code, inputs, config, &report)?;
     Ok(WatchedRounds {

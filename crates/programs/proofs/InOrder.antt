@@ -52,7 +52,7 @@ module _ (text : List ℕ) (p : Program) (g : Graph) (h : Lowers text p g) (inpu
   pub mode_shown : (order : Order) (c : Config) (may_stop : Bool) (r : Report) → ReportsTruthIn order (text_of g) g inputs c may_stop r → r.end ≡ Rest
       → r.deferred ≡ 0 → Shown r
   mode_shown (Order.InTurn take) c may_stop r t = report_shown _ _ _ _ r t.0
-  mode_shown Order.InRounds c may_stop r t = report_shown _ _ _ _ r t
+  mode_shown (Order.InRounds take) c may_stop r t = report_shown _ _ _ _ r t
   mode_shown Order.Free c may_stop r t = report_shown _ _ _ _ r t
 
 -- A report of the program's graph that was not cut off, by whatever means it was made

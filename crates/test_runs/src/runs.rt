@@ -27,10 +27,11 @@ const SQUARE: &[u8] = b"array A[4];\nfn main(n) -> 2 { A[n] := n * n, A[n] + 1 }
 /// The name `m` stands for nothing.
 const NAMELESS: &[u8] = b"fn main(n) {\n    n + m\n}\n";
 
-const ORDERS: [Order; 4] = [
+const ORDERS: [Order; 5] = [
     Order::InTurn(Take::Oldest),
     Order::InTurn(Take::Depth),
-    Order::InRounds,
+    Order::InRounds(Take::Oldest),
+    Order::InRounds(Take::Depth),
     Order::Free,
 ];
 

@@ -22,11 +22,11 @@ returns-in-InTurn-clause-shows g c = λ inputs began.
 pub returns-in-InRounds-clause-shows : goal.returns-in-InRounds-clause-shows
 returns-in-InRounds-clause-shows g c = λ inputs began.
     let z : Setting = c.args.machine.state.setting in
-    subst (λ (m : Order). ShowsInOrder z.program (size z) inputs z.steps false (stops_in m g.G.Gate.may_stop) c.run.result) (sym c.in-InRounds.is)
-    (c.run.ensures.shows inputs began)
+    subst (λ (m : Order). ShowsInOrder z.program (size z) inputs z.steps false (stops_in m g.G.Gate.may_stop) c.run_taking.result) (sym c.in-InRounds.is)
+    (c.run_taking.ensures.shows inputs began)
 
 pub returns-in-Free-clause-shows : goal.returns-in-Free-clause-shows
 returns-in-Free-clause-shows g c = λ inputs began.
     let z : Setting = c.args.machine.state.setting in
-    subst (λ (m : Order). ShowsInOrder z.program (size z) inputs z.steps false (stops_in m g.G.Gate.may_stop) c.run-in-Free.result) (sym c.in-Free.is)
-    (c.run-in-Free.ensures.shows inputs began)
+    subst (λ (m : Order). ShowsInOrder z.program (size z) inputs z.steps false (stops_in m g.G.Gate.may_stop) c.run.result) (sym c.in-Free.is)
+    (c.run.ensures.shows inputs began)
