@@ -123,15 +123,19 @@ module _ (bytes : List ℕ) (inputs : List ℤ) (c : Config) (k : SoFar) (s : St
       → RunsObject bytes inputs c (RunsByRounds take may_stop rounds) r
   runs_by_rounds take may_stop rounds r truth = runs (RunsByRounds take may_stop rounds) r (record { width = s.width; start = k; opens = s.opens; truth = truth })
 
-  -- QUIETLY. In each mode: the run in turns that is shown is the one that is followed.
+  -- QUIETLY. The run in turns that is shown is the one that is followed.
+  pub shows_in_turn_quietly : (take : Take) (may_stop : Bool) (r : Report) → Quietly (RunsTaking take k) r
+      → Quietly (ShowsObjectIn (Order.InTurn take) bytes inputs c may_stop) r
+  shows_in_turn_quietly take may_stop r q =
+      let x : Report = with_events r q.1 in
+      let t : RunsTaking take k x = q.2 in
+      (q.0, q.1, (shown_object false false x (t.shows inputs s.opens.began), runs_by_turns take x t))
+
+  -- in each mode
   pub shows_in_quietly : (order : Order) (may_stop : Bool) (r : Report)
       → ((ins : List ℤ) → Began ins k.state k.events → ShowsQuietly k.state.setting.program (size k.state.setting) ins k.state.setting.steps false
       (stops_in order may_stop) r)
       → ((take : Take) → order ≡ Order.InTurn take → Quietly (RunsTaking take k) r) → Quietly (ShowsObjectIn order bytes inputs c may_stop) r
-  shows_in_quietly (Order.InTurn take) may_stop r shows turns =
-      let q = turns take refl in
-      let x : Report = with_events r q.1 in
-      let t : RunsTaking take k x = q.2 in
-      (q.0, q.1, (shown_object false false x (t.shows inputs s.opens.began), runs_by_turns take x t))
+  shows_in_quietly (Order.InTurn take) may_stop r shows turns = shows_in_turn_quietly take may_stop r (turns take refl)
   shows_in_quietly (Order.InRounds take) may_stop r shows turns = shows_object_quietly false may_stop r shows
   shows_in_quietly Order.Free may_stop r shows turns = shows_object_quietly false may_stop r shows

@@ -109,6 +109,22 @@ pub fn run_code_quietly<
     Ok(run_quietly_in(machine, order, rt, gate))
 }
 
+/// Like `run_code_quietly`, of elements that take turns, with their tokens in this order. It starts no thread.
+pub fn run_code_quietly_in_turn<A: Allocator + Clone>(
+    alloc: A,
+    code: &Loaded<'_, A>,
+    inputs: &[i64],
+    config: Config,
+    take: Take,
+) -> Result<Report<A>, Fault>
+    ensures { MatchResult result (Quietly (ShowsObjectIn (Order.InTurn take) code.now.bytes inputs.now config false))
+        (IsRefusedObject code.now.bytes inputs.now config) }
+{
+    let mut store = None;
+    let machine = start_code(alloc, &mut store, code, inputs, config)?;
+    Ok(machine.run_quietly_in_turn(take))
+}
+
 /// The report of a run of the object in the order of a list. Each entry of the list names an element, and one of its tokens by
 /// its place in the queue, modulo the queue's length.
 pub fn run_code_picks<A: Allocator + Clone>(

@@ -33,7 +33,7 @@ elements: --elements is 1 to 16, and not $a
 frames: --frames is 1 to 1024, and not $a
 mode: --mode is `one`, `rounds` or `free`
 take: --take is `oldest` or `depth`
-no-depth: `run`, `exec` and `trace` take tokens by depth in the mode one, and nothing else does: --take is `oldest` here
+no-depth: `run`, `exec` and `trace` take tokens by depth in the modes one and rounds, and `profile` does: --take is `oldest` here
 enough-elements: $a frames of all elements together suffice in every order, and $b element$B cannot have so many: an element has 1024 at most, so --elements $c has enough
 enough-nowhere: $a frames of all elements together suffice in every order, and no machine has more than 16384: fewer may do, so try --frames 1024
 enough-unknown: within --steps $a activities the meaning does not come to rest with no reader waiting, so no number of frames is known to suffice: `ets mean` says where it is then
@@ -47,7 +47,7 @@ activities-end: --steps $a allows no further activity, and there is one: raise i
 no-frame: $a request$A for a frame at the end, where no frame was free: raise --frames (1024 at most), or --elements (16 at most)$y
 no-frame-of-enough: $a request$A for a frame at the end, where no frame was free: raise --frames (1024 at most), or --elements (16 at most)$y; $e frames of all elements together suffice in every order, if --steps does
 no-frame-of-enough-bounds: $a request$A for a frame at the end, where no frame was free: raise --frames (1024 at most), or --elements (16 at most)$y; $e frames of all elements together suffice in every order where each loop's bound is at least $f, if --steps does
-no-frame-in-row: $a request$A for a frame at its end, where none of its $d frame$D was free: raise --frames (1024 at most), or leave $c out of --elements
+no-frame-in-row: $a request$A for a frame at its end, where none of its $d frame$D was free: raise --frames (1024 at most), or leave $c out of --elements$y
 failed-row: the run on $c element$C does not end at rest, so its rounds are not those of all the work
 readers: $a reader$A at the end of cells that no store filled: `ets trace` shows them, each with a `read` that is `deferred` and no `write`
 readers-of-cells: $a reader$A at the end of cells that no store filled: $x

@@ -7,6 +7,7 @@ ghost use Rattle.std.specs.Prelude.{◌≡◌, IfOk, is_some};
 ghost use Rattle.hints.specs.Hints.{wants_hint};
 
 mod blocks;
+mod by_depth;
 mod catalog;
 mod fields;
 mod graphs;
@@ -22,6 +23,7 @@ mod runs;
 mod texts;
 mod words;
 
+use by_depth::advised;
 use catalog::{Text, found};
 use command_line::{Asked, Request, read_words};
 use graphs::{code_fault, graph_fault};
@@ -267,9 +269,11 @@ pub fn explain<'a, S: AsStr, A: Allocator + Clone>(
 ) -> Result<Option<Hint<A>>, AllocError>
     ensures { IfOk result (λ hint. is_some hint ≡ wants_hint outcome) }
 {
-    let Some(found) = cause_of(words.get(1..).unwrap_or(words), input, outcome) else {
+    let words = words.get(1..).unwrap_or(words);
+    let Some(found) = cause_of(words, input, outcome) else {
         return Ok(None);
     };
+    let found = advised(&alloc, words, input, found)?;
     let found = match named_cells(alloc.clone()?, input, outcome)? {
         Some(cells) => Found {
             cause: "readers-of-cells",

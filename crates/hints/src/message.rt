@@ -25,8 +25,8 @@ pub enum Special {
     /// Cells, whose arrays are in the first lines of `$p`.
     Readers(ReaderCells),
     Loops(LoopLines),
-    /// The order of tokens that may be tried, too.
-    Depth,
+    /// The order of tokens that may be tried, too, and the frames of each element with which a run in that order came to rest, where one did.
+    Depth(Option<u64>),
 }
 
 /// A cause, with two numbers.
@@ -60,7 +60,13 @@ impl Display for Special {
             Special::Programming(kind) => Display::fmt(&kind, f),
             Special::Readers(cells) => Display::fmt(&cells.count, f),
             Special::Loops(loops) => loops.show(f),
-            Special::Depth => f.write_str(", or try --take depth"),
+            Special::Depth(None) => f.write_str(", or try --take depth"),
+            Special::Depth(Some(frames)) => {
+                write!(
+                    f,
+                    ", or try --take depth, with which --frames {frames} suffices"
+                )
+            }
         }
     }
 }

@@ -34,13 +34,13 @@ fn inputs_of<A: Allocator>(alloc: A, lines: &[u8]) -> Result<Vec<i64, A>, AllocE
 
 /// A graph that was read, and the inputs of its run.
 #[derive(Drop)]
-struct ReadRun<'a, A: Allocator> {
-    checked: Checked<'a, A>,
-    inputs: Vec<i64, A>,
+pub struct ReadRun<'a, A: Allocator> {
+    pub checked: Checked<'a, A>,
+    pub inputs: Vec<i64, A>,
 }
 
 /// The graph of this input and its inputs, where it is one that can be run.
-fn read_run<'a, A: Allocator + Clone>(
+pub fn read_run<'a, A: Allocator + Clone>(
     alloc: A,
     input: &'a [u8],
 ) -> Result<Option<ReadRun<'a, A>>, AllocError> {

@@ -365,6 +365,11 @@ fn frames_of(request: &Request) -> u64 {
     }
 }
 
+/// Whether the elements of a run with these options take turns on one thread.
+pub fn runs_in_turn(options: &RunOptions) -> bool {
+    options.mode == Some(Mode::One)
+}
+
 /// What is said of the order of tokens to one whose run wants frames, where there is another order that may want fewer.
 fn order_advice(request: &Request) -> Special {
     match request {
@@ -372,8 +377,11 @@ fn order_advice(request: &Request) -> Special {
         | Request::RunEnough(options)
         | Request::Exec { options, .. }
         | Request::Trace { options, .. }
-            if options.mode == Some(Mode::One) && options.take == Some(Take::Oldest) =>
-            Special::Depth,
+            if options.mode != Some(Mode::Free) && options.take == Some(Take::Oldest) =>
+            Special::Depth(None),
+        Request::Profile { options, .. } if options.take == Some(Take::Oldest) => Special::Depth(
+            None,
+        ),
         _ => Special::Nothing,
     }
 }
@@ -398,7 +406,8 @@ fn row_fault<'a>(case: &Case<'_, 'a>, row: FailedRow) -> Option<Found<'a>>
         None => 0,
     };
     let frames = row.elements.saturating_mul(each);
-    Some(shown(case, Some("failed-row"), counted, [row.elements, frames]))
+    let found = shown(case, Some("failed-row"), counted, [row.elements, frames]);
+    Some(found.with([Special::Nothing, order_advice(case.request)]))
 }
 
 /// Why the meaning of a profile did not end at rest, or else the run of a row.
