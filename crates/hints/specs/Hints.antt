@@ -1,9 +1,10 @@
 -- What a hint on standard error looks like, and where there is none.
-use Rattle.std.specs.Prelude.{ℕ, ◌≤◌, ◌==◌, Bool, true, false, not, List, [], ◌∷◌, ◌++◌, Option, None, Some, codes, nat_lt, if◌then◌else◌}
+use Rattle.std.specs.Prelude.{ℕ, ◌≤◌, ◌==◌, Bool, true, false, not, List, [], ◌∷◌, ◌++◌, Option, None, Some, codes, is_some, nat_lt, if◌then◌else◌}
 use Rattle.semantics.specs.declared.report.End.{End}
 use Rattle.oracle.specs.declared.report.MeanEnd.{MeanEnd}
 use Rattle.outcomes.specs.declared.outcome.Ending.{Ending}
 use Rattle.outcomes.specs.declared.outcome.FailedRow.{FailedRow}
+use Rattle.outcomes.specs.declared.outcome.MadeFault.{MadeFault}
 use Rattle.outcomes.specs.declared.outcome.Outcome.{Outcome}
 use Rattle.outcomes.specs.Outcomes.{exit_status, meaning_status}
 
@@ -29,13 +30,31 @@ rests_waiting (End.Stuck r) readers = false
 rests_waiting End.Memory readers = false
 rests_waiting End.Stop readers = false
 
--- of how a run ended: where its exit status is not 0, and at rest where readers wait
+-- of the end of a run: where its exit status is not 0, and at rest where readers wait
 abbrev pub run_wants : End → ℕ → Bool
 run_wants end readers = if exit_status end == 0 then rests_waiting end readers else true
 
+-- at rest an output or a cell has a fault
+abbrev pub rests_faulty : End → Option MadeFault → Bool
+rests_faulty End.Rest fault = is_some fault
+rests_faulty End.Starved fault = false
+rests_faulty (End.Clash a i) fault = false
+rests_faulty End.Steps fault = false
+rests_faulty (End.Stuck r) fault = false
+rests_faulty End.Memory fault = false
+rests_faulty End.Stop fault = false
+
+abbrev pub ends_faulty : Ending → Bool
+ends_faulty (Ending.Run end frames credits readers fault) = rests_faulty end fault
+ends_faulty (Ending.Meaning end) = false
+
+-- of its end, whatever its outputs and cells have
+abbrev pub end_wants : Ending → Bool
+end_wants (Ending.Run end frames credits readers fault) = run_wants end readers
+end_wants (Ending.Meaning end) = not (meaning_status end == 0)
+
 abbrev pub ending_wants : Ending → Bool
-ending_wants (Ending.Run end frames credits readers) = run_wants end readers
-ending_wants (Ending.Meaning end) = not (meaning_status end == 0)
+ending_wants e = if ends_faulty e then true else end_wants e
 
 -- of a row of a profile whose run did not end at rest
 abbrev pub row_wants : Option FailedRow → Bool
@@ -47,7 +66,7 @@ abbrev pub profile_wants : MeanEnd → Option FailedRow → Bool
 profile_wants end failed = if meaning_status end == 0 then row_wants failed else true
 
 -- WHERE A HINT IS WANTED: where a write failed, of a refusal, and of a mistake in the command line; of a report of which the exit status is
--- not 0, or in which readers wait at rest; of a profile whose meaning, or a row of which, did not end at rest; of orders that differ, and of a page of many
+-- not 0, or in which readers wait at rest, or an output or a cell has a fault; of a profile whose meaning, or a row of which, did not end at rest; of orders that differ, and of a page of many
 -- events. A picture and events as data do not tell how a run ended.
 abbrev pub wants_hint : Option Outcome → Bool
 wants_hint None = true

@@ -56,7 +56,7 @@ fn fewest_frames<A: Allocator + Clone>(
     inputs: &[i64],
     config: Config,
 ) -> Result<u64, AllocError> {
-    let (mut few, mut enough) = (0, config.frames);
+    let (mut few, mut enough) = (0u64, config.frames);
     for _half in 0..HALVES {
         let frames = few.midpoint(enough);
         if frames == few {

@@ -49,6 +49,11 @@ no-frame-of-enough: $a request$A for a frame at the end, where no frame was free
 no-frame-of-enough-bounds: $a request$A for a frame at the end, where no frame was free: raise --frames (1024 at most), or --elements (16 at most)$y; $e frames of all elements together suffice in every order where each loop's bound is at least $f, if --steps does
 no-frame-in-row: $a request$A for a frame at its end, where none of its $d frame$D was free: raise --frames (1024 at most), or leave $c out of --elements$y
 failed-row: the run on $c element$C does not end at rest, so its rounds are not those of all the work
+fault-zero: a division by zero gives a fault, and each value that is computed from a fault is that fault
+fault-range: an index outside its array gives a fault, and each value that is computed from a fault is that fault
+fault-range-of: the index is outside array $2, which has $c cell$C: that gives a fault, and each value that is computed from a fault is that fault
+fault-untold: the graph is of version 1, whose faults do not say where they are made: with `etsgraph 2` in its first line they do
+fault-untold-code: the object does not say where faults are made
 readers: $a reader$A at the end of cells that no store filled: `ets trace` shows them, each with a `read` that is `deferred` and no `write`
 readers-of-cells: $a reader$A at the end of cells that no store filled: $x
 readers-of-object: $a reader$A at the end of cells that no store filled: the report has a line `cell` for each cell that one did
@@ -59,6 +64,7 @@ no-credit-of-code: $b request$B for a loop's credit at the end, where no iterati
 no-frame-no-credit: $a request$A for a frame and $b request$B for a loop's credit at the end: raise --frames (1024 at most), or --elements (16 at most)$y, and the bound k of the loops
 clash: a second store came to cell $a of array $b: a cell takes one store in a run
 named-clash: a second store came to cell $a of array $p: a cell takes one store in a run
+named-clash-of: a second store came to cell $a of array $p, and the stores of the array are in lines $x: a cell takes one store in a run
 stuck-object: the object is at fault, as no object of `ets compile` is, and the report does not name the token: `ets dis` lists the code, and docs/DEFINITIONS.md has the rules, in part 4
 stuck: compiled code never makes such a token: this is a fault of ets
 large-page: a page of more than 200000 events is slow to open: --last K makes one of the last K events

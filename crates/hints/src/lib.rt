@@ -9,17 +9,19 @@ ghost use Rattle.hints.specs.Hints.{wants_hint};
 mod blocks;
 mod by_depth;
 mod catalog;
+mod faults;
 mod fields;
 mod graphs;
 mod line;
+mod line_list;
 mod lines;
 mod listings;
-mod loops;
 mod message;
 mod objects;
 mod programs;
 mod readers;
 mod runs;
+mod sources;
 mod texts;
 mod words;
 
@@ -30,7 +32,6 @@ use graphs::{code_fault, graph_fault};
 pub use line::{Hint, Line};
 use lines::{line_at, split_graph, text_of, word_at};
 use listings::listing_fault;
-use loops::LoopLines;
 use message::{Found, Special, nowhere};
 use objects::object_fault;
 use oracle::CallCounts;
@@ -38,10 +39,11 @@ use outcomes::{Ending, Outcome, Refusal};
 use programs::{kind_cause, program_fault};
 use readers::{ReaderCells, invocations_of, reader_cells};
 use runs::{
-    Case, end_fault, given_fault, input_fault, is_of_object, memory_cause, not_at_rest, page_fault,
-    profile_fault, start_fault, too_many_frames,
+    Case, at_only_line, end_fault, given_fault, input_fault, is_of_object, memory_cause,
+    not_at_rest, page_fault, profile_fault, start_fault, too_many_frames,
 };
 use semantics::report::End;
+use sources::{Program, Sought, Source, places_of, program_of};
 use std::alloc::{AllocError, Allocator};
 use std::convert::AsStr;
 use texts::text_fault;
@@ -137,6 +139,7 @@ fn unlocated<'a>(request: &Request, refusal: Refusal) -> Found<'a> {
 /// Why the words did not get what they asked for, where there is something to say.
 fn cause_of<'a, S: AsStr>(
     words: &'a [S],
+    program: Option<Program<'_, 'a>>,
     input: Option<&'a [u8]>,
     outcome: Option<Outcome>,
 ) -> Option<Found<'a>>
@@ -147,7 +150,11 @@ fn cause_of<'a, S: AsStr>(
         Asked::Request(request) => request,
         _ => Request::Check,
     };
-    let case = Case { request, input };
+    let case = Case {
+        request,
+        input,
+        program,
+    };
     match outcome {
         None => Some(nowhere("unwritten", [""; 2])),
         Some(Outcome::Done | Outcome::Drawn(_)) => None,
@@ -169,7 +176,16 @@ fn named_cells<A: Allocator + Clone>(
     input: Option<&[u8]>,
     outcome: Option<Outcome>,
 ) -> Result<Option<ReaderCells>, AllocError> {
-    let Some(Outcome::Reported(Ending::Run { end: End::Rest, .. })) = outcome else {
+    let Some(
+        Outcome::Reported(
+            Ending::Run {
+                end: End::Rest,
+                fault: None,
+                ..
+            },
+        ),
+    ) = outcome
+    else {
         return Ok(None);
     };
     let cells = reader_cells(alloc, input.unwrap_or(b""))?;
@@ -199,21 +215,10 @@ fn credits_cause(counts: CallCounts, frames: u64) -> Option<Text> {
 
 /// What is said of a run whose loops want credits alone, with the loops whose bounds are less than these iterations. Where that is one, it is the one whose
 /// bound is too small, and its line is the place, if there is no other.
-fn with_loops<'a>(found: Found<'a>, input: &'a [u8], iterations: u64) -> Found<'a> {
-    let text = split_graph(input).0;
-    let loops = LoopLines::below(text, iterations);
+fn with_loops<'a>(found: Found<'a>, source: Source<'_, 'a>, iterations: u64) -> Found<'a> {
+    let loops = source.lines(Sought::LoopsBelow(iterations));
     let found = found.with([Special::Loops(loops); 2]);
-    let (None, Some(line)) = (found.place, loops.only()) else {
-        return found;
-    };
-    let mut numbers = found.numbers;
-    numbers[2] = line;
-    Found {
-        place: Some("line $c is `$s`"),
-        parts: [line_at(text, line); 3],
-        numbers,
-        ..found
-    }
+    at_only_line(found, source, loops)
 }
 
 /// The frames that suffice where a run of a graph wants frames, or credits though its frames suffice, with a cause that says so. `None` where that is not
@@ -221,6 +226,7 @@ fn with_loops<'a>(found: Found<'a>, input: &'a [u8], iterations: u64) -> Found<'
 fn enough_frames<'a, A: Allocator + Clone>(
     alloc: A,
     found: &Found<'a>,
+    program: Option<Program<'_, 'a>>,
     input: Option<&'a [u8]>,
 ) -> Result<Option<Found<'a>>, AllocError> {
     if found.cause != "no-frame" && found.cause != "no-credit" {
@@ -248,7 +254,10 @@ fn enough_frames<'a, A: Allocator + Clone>(
     };
     Ok(Some(match is_of_frames {
         true => found,
-        false => with_loops(found, input, counts.iterations as u64),
+        false => {
+            let graph = split_graph(input).0;
+            with_loops(found, Source { graph, program }, counts.iterations as u64)
+        }
     }))
 }
 
@@ -256,6 +265,55 @@ fn enough_frames<'a, A: Allocator + Clone>(
 fn line_of<A: Allocator + Clone>(alloc: A, found: &Found<'_>) -> Result<Line<A>, AllocError> {
     let text = format!(in alloc.clone()?; "{found}")?;
     Line::of(alloc, text.as_str())
+}
+
+/// What was found, with the cells for which readers wait, where they are known, at a fetch that waits.
+fn with_cells<'a>(
+    found: Found<'a>,
+    program: Option<Program<'_, 'a>>,
+    input: &'a [u8],
+    cells: ReaderCells,
+) -> Found<'a> {
+    let graph = split_graph(input).0;
+    let found = Found {
+        cause: "readers-of-cells",
+        parts: [input; 3],
+        specials: [Special::Readers(cells); 2],
+        ..found
+    };
+    let Some(fetch) = cells.fetch else {
+        return found;
+    };
+    let source = Source { graph, program };
+    source.at(found, fetch).unwrap_or(found)
+}
+
+/// The hint that a person gets after a command over this input, whose graph was made of that program, if it is known.
+fn explained<'a, S: AsStr, A: Allocator + Clone>(
+    alloc: A,
+    words: &'a [S],
+    program: Option<Program<'_, 'a>>,
+    input: Option<&'a [u8]>,
+    outcome: Option<Outcome>,
+) -> Result<Option<Hint<A>>, AllocError>
+    ensures { IfOk result (λ hint. is_some hint ≡ wants_hint outcome) }
+{
+    let words = words.get(1..).unwrap_or(words);
+    let Some(found) = cause_of(words, program, input, outcome) else {
+        return Ok(None);
+    };
+    let found = advised(&alloc, words, input, found)?;
+    let found = match named_cells(alloc.clone()?, input, outcome)? {
+        Some(cells) => with_cells(found, program, input.unwrap_or(b""), cells),
+        None => found,
+    };
+    let found = enough_frames(alloc.clone()?, &found, program, input)?.unwrap_or(found);
+    let place = match found.place {
+        Some(cause) => Some(line_of(alloc.clone()?, &Found { cause, ..found })?),
+        None => None,
+    };
+    let cause = line_of(alloc, &found)?;
+    Ok(Some(Hint { place, cause }))
 }
 
 /// The hint that a person gets after a command. `words` are the words of the command line, the program's name first. `input` is
@@ -269,25 +327,23 @@ pub fn explain<'a, S: AsStr, A: Allocator + Clone>(
 ) -> Result<Option<Hint<A>>, AllocError>
     ensures { IfOk result (λ hint. is_some hint ≡ wants_hint outcome) }
 {
-    let words = words.get(1..).unwrap_or(words);
-    let Some(found) = cause_of(words, input, outcome) else {
-        return Ok(None);
+    explained(alloc, words, None, input, outcome)
+}
+
+/// The same after a command over the graph of a program, with places in the text of the program. `input` is that graph, and its inputs.
+pub fn explain_program<'a, S: AsStr, A: Allocator + Clone>(
+    alloc: A,
+    words: &'a [S],
+    text: &'a [u8],
+    input: Option<&'a [u8]>,
+    outcome: Option<Outcome>,
+) -> Result<Option<Hint<A>>, AllocError>
+    ensures { IfOk result (λ hint. is_some hint ≡ wants_hint outcome) }
+{
+    let nodes = places_of(&alloc, text)?;
+    let program = Program {
+        text: program_of(text),
+        nodes: &nodes,
     };
-    let found = advised(&alloc, words, input, found)?;
-    let found = match named_cells(alloc.clone()?, input, outcome)? {
-        Some(cells) => Found {
-            cause: "readers-of-cells",
-            parts: [input.unwrap_or(b""); 3],
-            specials: [Special::Readers(cells); 2],
-            ..found
-        },
-        None => found,
-    };
-    let found = enough_frames(alloc.clone()?, &found, input)?.unwrap_or(found);
-    let place = match found.place {
-        Some(cause) => Some(line_of(alloc.clone()?, &Found { cause, ..found })?),
-        None => None,
-    };
-    let cause = line_of(alloc, &found)?;
-    Ok(Some(Hint { place, cause }))
+    explained(alloc, words, Some(program), input, outcome)
 }

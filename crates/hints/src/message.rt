@@ -1,8 +1,8 @@
 //! Messages: texts, with the values that they show.
 
 use crate::catalog::{Text, found};
+use crate::line_list::LineList;
 use crate::lines::{line_at, text_of, word_at};
-use crate::loops::LoopLines;
 use crate::readers::ReaderCells;
 use graph_check::CheckFaultKind;
 use graph_file::ReadFaultKind;
@@ -24,7 +24,10 @@ pub enum Special {
     Programming(FaultKind),
     /// Cells, whose arrays are in the first lines of `$p`.
     Readers(ReaderCells),
-    Loops(LoopLines),
+    /// Lines of loops.
+    Loops(LineList),
+    /// Lines.
+    Lines(LineList),
     /// The order of tokens that may be tried, too, and the frames of each element with which a run in that order came to rest, where one did.
     Depth(Option<u64>),
 }
@@ -59,7 +62,8 @@ impl Display for Special {
             Special::Checking(kind) => Display::fmt(&kind, f),
             Special::Programming(kind) => Display::fmt(&kind, f),
             Special::Readers(cells) => Display::fmt(&cells.count, f),
-            Special::Loops(loops) => loops.show(f),
+            Special::Loops(lines) => lines.show_loops(f),
+            Special::Lines(lines) => lines.show(f),
             Special::Depth(None) => f.write_str(", or try --take depth"),
             Special::Depth(Some(frames)) => {
                 write!(
@@ -186,6 +190,24 @@ impl<'a> Found<'a> {
             parts,
             numbers,
             specials: [Special::Nothing; 2],
+        }
+    }
+
+    /// The same at this place, which shows these words, `$q` and `$s`, and `$e` and `$f`.
+    pub fn placed(
+        self,
+        place: Text,
+        words: [&'a str; 2],
+        parts: [&'a [u8]; 2],
+        numbers: [u64; 2],
+    ) -> Found<'a> {
+        let [first, second, third, fourth, _, _] = self.numbers;
+        Found {
+            place: Some(place),
+            words,
+            parts: [self.parts[0], parts[0], parts[1]],
+            numbers: [first, second, third, fourth, numbers[0], numbers[1]],
+            ..self
         }
     }
 

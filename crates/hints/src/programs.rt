@@ -55,7 +55,7 @@ fn is_run_byte(byte: &&u8) -> bool {
 }
 
 /// The token, or the bad token, that begins at this place: a run of letters, digits and `_`, or a sign. Empty at the end, and past it.
-fn token_at(text: &[u8], at: usize) -> &[u8] {
+pub fn token_at(text: &[u8], at: usize) -> &[u8] {
     let bytes = text.get(at..).unwrap_or(b"");
     let run = bytes.iter().take_while(is_run_byte).count();
     let is_pair = PAIRS.contains(&bytes.get(..2).unwrap_or(b""));

@@ -2,6 +2,7 @@
 //! meaning, and how many invocations it calls for.
 
 use crate::lines::{is_full, is_line_feed, split_graph};
+use crate::sources::Node;
 use graph_check::{Checked, check_graph};
 use graph_file::{literal, read_graph};
 use oracle::{CallCounts, MeanFault, call_counts, waiting_fetches};
@@ -21,6 +22,8 @@ pub type Place = (usize, i64);
 pub struct ReaderCells {
     pub first: [Place; NAMED],
     pub count: usize,
+    /// The first fetch that waits.
+    pub fetch: Option<Node>,
 }
 
 /// The inputs of a run: an integer in each line.
@@ -55,22 +58,25 @@ pub fn read_run<'a, A: Allocator + Clone>(
     Ok(Some(ReadRun { checked, inputs }))
 }
 
-/// The cells for which fetches wait where the meaning is at rest, in order, each as often as a fetch waits for it. There are none
+/// The cells for which fetches wait where the meaning is at rest, each as often as a fetch waits for it, with the nodes of the fetches. There are none
 /// where the meaning is not at rest soon.
 fn waiting_cells<A: Allocator + Clone>(
     alloc: A,
     input: &[u8],
-) -> Result<Vec<Place, A>, AllocError> {
+) -> Result<Vec<(Place, Node), A>, AllocError> {
     let mut cells = Vec::new(alloc.clone()?);
     let Some(run) = read_run(alloc.clone()?, input)? else {
         return Ok(cells);
     };
     if let Ok(Some(fetches)) = waiting_fetches(alloc, &run.checked, &run.inputs, ACTIVITIES) {
         for fetch in &fetches {
-            cells.push((fetch.array, fetch.index))?;
+            let node = Node {
+                block: fetch.block as u64,
+                node: fetch.node as u64,
+            };
+            cells.push(((fetch.array, fetch.index), node))?;
         }
     }
-    cells.sort_unstable();
     Ok(cells)
 }
 
@@ -90,7 +96,7 @@ pub fn invocations_of<A: Allocator + Clone>(
 }
 
 /// The first of these cells, which are in order, and how many there are.
-fn first_of(cells: &[Place]) -> ReaderCells {
+fn first_of(cells: &[Place], fetch: Option<Node>) -> ReaderCells {
     let mut first = [(0, 0); NAMED];
     let mut count = 0usize;
     let mut last = None;
@@ -103,15 +109,31 @@ fn first_of(cells: &[Place]) -> ReaderCells {
             last = Some(*cell);
         }
     }
-    ReaderCells { first, count }
+    ReaderCells {
+        first,
+        count,
+        fetch,
+    }
 }
 
-/// The cells for which readers wait where the run of this graph on its inputs is at rest. There are none where the meaning of the
-/// graph is not at rest soon.
+/// The node of the first of these fetches that waits for this cell.
+fn fetch_of(fetches: &[(Place, Node)], cell: Option<&Place>) -> Option<Node> {
+    let cell = cell?;
+    let fetch = fetches.iter().find(|fetch| fetch.0 == *cell)?;
+    Some(fetch.1)
+}
+
+/// The cells for which readers wait where the run of this graph on its inputs is at rest, and the node of a fetch that waits for the first of them. There are
+/// none where the meaning of the graph is not at rest soon.
 pub fn reader_cells<A: Allocator + Clone>(
     alloc: A,
     input: &[u8],
 ) -> Result<ReaderCells, AllocError> {
-    let cells = waiting_cells(alloc, input)?;
-    Ok(first_of(&cells))
+    let fetches = waiting_cells(alloc.clone()?, input)?;
+    let mut cells = Vec::new(alloc);
+    for fetch in &fetches {
+        cells.push(fetch.0)?;
+    }
+    cells.sort_unstable();
+    Ok(first_of(&cells, fetch_of(&fetches, cells.first())))
 }

@@ -2,18 +2,23 @@
 
 ghost use Rattle.std.specs.Prelude.{◌≡◌, ◌==◌, is_some, nat_lt, not};
 ghost use Rattle.outcomes.specs.Outcomes.{exit_status, meaning_status};
-ghost use Rattle.hints.specs.Hints.{ending_wants, profile_wants, rests_waiting};
+ghost use Rattle.hints.specs.Hints.{end_wants, ending_wants, ends_faulty, profile_wants, rests_waiting};
 
 use crate::blocks::Block;
 use crate::catalog::Text;
+use crate::faults::found_fault;
 use crate::fields::literal_fault;
-use crate::lines::{is_full, is_line_feed, last_line, line_at, split_graph, text_at, word_at};
+use crate::line_list::LineList;
+use crate::lines::{
+    is_full, is_line_feed, last_line, line_at, split_graph, text_at, text_of, word_at,
+};
 use crate::message::{Counted, Found, Special, nowhere};
+use crate::sources::{Program, Sought as SoughtNodes, Source};
 use crate::words::{Sought, first_of};
 use command_line::{Inputs, Mode, Request, RunOptions, Sizes, Take};
 use object_view::Object;
 use oracle::MeanEnd;
-use outcomes::{Ending, FailedRow};
+use outcomes::{Ending, FailedRow, MadeFault};
 use schedule::config::StartFault;
 use semantics::report::End;
 use std::convert::AsStr;
@@ -40,6 +45,20 @@ const RULES: [Text; 6] = [
 pub struct Case<'r, 'a> {
     pub request: &'r Request,
     pub input: Option<&'a [u8]>,
+    /// The program that the graph of the input was made of, if that is known.
+    pub program: Option<Program<'r, 'a>>,
+}
+
+impl<'r, 'a> Case<'r, 'a> {
+    /// The graph that was run, where it was kept.
+    pub fn source(&self) -> Option<Source<'r, 'a>> {
+        if is_of_object(self.request) {
+            return None;
+        }
+        let graph = split_graph(self.input?).0;
+        let program = self.program;
+        Some(Source { graph, program })
+    }
 }
 
 /// What is wrong with input `number`, which is this.
@@ -315,7 +334,7 @@ fn meaning_cause(case: &Case<'_, '_>, end: MeanEnd) -> Option<Counted>
 
 /// What is to be said of how what was run ended, with two numbers.
 fn end_cause(case: &Case<'_, '_>, ending: Ending) -> Option<Counted>
-    ensures { is_some result ≡ ending_wants ending }
+    ensures { is_some result ≡ end_wants ending }
 {
     match ending {
         Ending::Run {
@@ -323,6 +342,7 @@ fn end_cause(case: &Case<'_, '_>, ending: Ending) -> Option<Counted>
             frames,
             credits,
             readers,
+            ..
         } => match run_cause(case, end, frames, credits) {
             Some(cause) => Some(cause),
             None => rest_cause(case.request, end, readers),
@@ -386,13 +406,64 @@ fn order_advice(request: &Request) -> Special {
     }
 }
 
+/// What was found of a clash, with the stores of the array: at the line of the store, where there is one alone.
+fn with_stores<'a>(case: &Case<'_, 'a>, found: Found<'a>) -> Found<'a> {
+    let (Some(source), "named-clash") = (case.source(), found.cause) else {
+        return found;
+    };
+    let lines = source.lines(SoughtNodes::Stores(text_of(found.parts[0])));
+    if lines.is_many() {
+        let cause = "named-clash-of";
+        return Found { cause, ..found }.with([Special::Lines(lines); 2]);
+    }
+    at_only_line(found, source, lines)
+}
+
+/// What was found, at the line of the list, where there is one alone, and no place is known.
+pub fn at_only_line<'a>(found: Found<'a>, source: Source<'_, 'a>, lines: LineList) -> Found<'a> {
+    let (None, Some(number)) = (found.place, lines.only()) else {
+        return found;
+    };
+    let line = line_at(source.text(), number);
+    let mut numbers = found.numbers;
+    numbers[2] = number;
+    let parts = [found.parts[0], found.parts[1], line];
+    Found {
+        place: Some("line $c is `$s`"),
+        parts,
+        numbers,
+        ..found
+    }
+}
+
+/// The fault of an output or of a cell, where the run ended at rest.
+fn fault_at_rest(ending: Ending) -> Option<MadeFault>
+    ensures { is_some result ≡ ends_faulty ending }
+{
+    match ending {
+        Ending::Run { end, fault, .. } => match end {
+            End::Rest => fault,
+            End::Starved
+            | End::Clash { .. }
+            | End::Steps
+            | End::Stuck { .. }
+            | End::Memory
+            | End::Stop => None,
+        },
+        Ending::Meaning(_) => None,
+    }
+}
+
 /// What is to be said of how what was run ended, and the rule that excludes a token. The last number shown is that of all frames.
 pub fn end_fault<'a>(case: &Case<'_, 'a>, ending: Ending) -> Option<Found<'a>>
     ensures { is_some result ≡ ending_wants ending }
 {
+    if let Some(fault) = fault_at_rest(ending) {
+        return Some(found_fault(case.source(), fault));
+    }
     let counted = end_cause(case, ending)?;
     let others = [0, frames_of(case.request)];
-    let found = shown(case, rule_of(ending), counted, others);
+    let found = with_stores(case, shown(case, rule_of(ending), counted, others));
     Some(found.with([Special::Nothing, order_advice(case.request)]))
 }
 

@@ -1,9 +1,11 @@
 -- Exit statuses, each a function of a command's outcome.
-use Rattle.std.specs.Prelude.{ℕ}
+use Rattle.std.specs.Prelude.{ℕ, List, [], ◌∷◌, Option, Some, None}
+use Rattle.tags.specs.declared.value.Value.{Value}
 use Rattle.semantics.specs.Report.{Report}
 use Rattle.semantics.specs.declared.report.End.{End}
 use Rattle.oracle.specs.declared.report.MeanEnd.{MeanEnd}
 use Rattle.outcomes.specs.declared.outcome.Ending.{Ending}
+use Rattle.outcomes.specs.declared.outcome.MadeFault.{MadeFault}
 use Rattle.outcomes.specs.declared.outcome.Outcome.{Outcome}
 
 -- the exit status for the end of a run
@@ -23,7 +25,7 @@ meaning_status (MeanEnd.Clash a i) = 3
 meaning_status MeanEnd.Steps = 4
 
 abbrev pub ending_status : Ending → ℕ
-ending_status (Ending.Run end frames credits readers) = exit_status end
+ending_status (Ending.Run end frames credits readers fault) = exit_status end
 ending_status (Ending.Meaning end) = meaning_status end
 
 -- the exit status for a command's outcome
@@ -37,6 +39,29 @@ outcome_status (Outcome.Drawn e) = ending_status e
 outcome_status (Outcome.Paged e events) = ending_status e
 outcome_status Outcome.Differed = 1
 
+-- the first of two, if there is one, or else the second
+abbrev pub or_else : Option MadeFault → Option MadeFault → Option MadeFault
+or_else (Some fault) other = Some fault
+or_else None other = other
+
+-- the fault that this is, if it is one
+abbrev pub fault_in : Option Value → Option MadeFault
+fault_in None = None
+fault_in (Some (Value.Int z)) = None
+fault_in (Some (Value.Fault kind origin)) = Some (record { kind = kind; origin = origin })
+
+-- the fault of the first of these outputs, or of these cells, that has one
+unfoldable pub first_fault : List (Option Value) → Option MadeFault
+first_fault [] = None
+first_fault (output ∷ rest) = or_else (fault_in output) (first_fault rest)
+
+unfoldable pub first_cell_fault : List (ℕ × Value) → Option MadeFault
+first_cell_fault [] = None
+first_cell_fault (cell ∷ rest) = or_else (fault_in (Some cell.1)) (first_cell_fault rest)
+
+abbrev pub fault_of : Report → Option MadeFault
+fault_of r = or_else (first_fault r.outputs) (first_cell_fault r.cells)
+
 -- how the run with this report ended
 abbrev pub ending_of : Report → Ending
-ending_of r = Ending.Run r.end r.waiting_frames r.waiting_credits r.deferred
+ending_of r = Ending.Run r.end r.waiting_frames r.waiting_credits r.deferred (fault_of r)

@@ -5,5 +5,5 @@
 mod outcome;
 mod refusal;
 
-pub use outcome::{Ending, FailedRow, Outcome, status_of};
+pub use outcome::{Ending, FailedRow, MadeFault, Outcome, status_of};
 pub use refusal::Refusal;

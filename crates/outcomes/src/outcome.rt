@@ -1,16 +1,24 @@
 //! The outcome of a command whose text was printed whole.
 
 ghost use Rattle.std.specs.Prelude.{◌≡◌};
-ghost use Rattle.outcomes.specs.Outcomes.{ending_of, ending_status, exit_status, meaning_status, outcome_status};
+ghost use Rattle.outcomes.specs.Outcomes.{ending_of, ending_status, exit_status, fault_in, fault_of, first_cell_fault, first_fault, meaning_status, outcome_status};
 
 use crate::refusal::Refusal;
 use oracle::MeanEnd;
 use schedule::report::Report;
 use semantics::report::End;
 use std::alloc::Allocator;
+use tags::value::{FaultKind, Origin, Value};
 
 /// The exit status of a refusal, of a fault of the command line, and where two orders differ.
 const REFUSED: u8 = 1;
+
+/// A fault that an output or a cell has: what went wrong, and where it was made.
+#[derive(Clone, Copy, Debug, PartialEq, Eq)]
+pub struct MadeFault {
+    pub kind: FaultKind,
+    pub origin: Origin,
+}
 
 /// How what was run ended.
 #[derive(Clone, Copy, Debug)]
@@ -24,6 +32,8 @@ pub enum Ending {
         credits: u64,
         /// How many readers wait in cells.
         readers: u64,
+        /// The fault of the first output that has one, or else of the first cell.
+        fault: Option<MadeFault>,
     },
     /// The meaning of a graph.
     Meaning(MeanEnd),
@@ -93,6 +103,52 @@ pub fn status_of(end: End) -> u8
     }
 }
 
+/// The fault that this is, if it is one.
+fn fault_in(value: Option<Value>) -> Option<MadeFault>
+    ensures { result ≡ fault_in value }
+{
+    match value {
+        Some(Value::Fault { kind, origin }) => Some(MadeFault { kind, origin }),
+        Some(Value::Int(_)) | None => None,
+    }
+}
+
+/// The fault of the first of these outputs that has one.
+fn first_fault(outputs: &[Option<Value>]) -> Option<MadeFault>
+    ensures { result ≡ first_fault outputs.now }
+{
+    for output in outputs {
+        let fault = fault_in(*output);
+        if fault.is_some() {
+            return fault;
+        }
+    }
+    None
+}
+
+/// The fault of the first of these cells that has one.
+fn first_cell_fault(cells: &[(u32, Value)]) -> Option<MadeFault>
+    ensures { result ≡ first_cell_fault cells.now }
+{
+    for cell in cells {
+        let fault = fault_in(Some(cell.1));
+        if fault.is_some() {
+            return fault;
+        }
+    }
+    None
+}
+
+/// The fault of the first output of the report that has one, or else of the first cell.
+fn fault_of<A: Allocator>(report: &Report<A>) -> Option<MadeFault>
+    ensures { result ≡ fault_of report.now }
+{
+    match first_fault(report.outputs.as_slice()) {
+        Some(fault) => Some(fault),
+        None => first_cell_fault(&report.cells),
+    }
+}
+
 impl Ending {
     /// How the run with this report ended.
     pub fn of<A: Allocator>(report: &Report<A>) -> Ending
@@ -103,6 +159,7 @@ impl Ending {
             frames: report.waiting_frames,
             credits: report.waiting_credits,
             readers: report.deferred,
+            fault: fault_of(report),
         }
     }
 

@@ -18,6 +18,7 @@ fn ended(end: End, frames: u64, credits: u64, readers: u64) -> Outcome {
         frames,
         credits,
         readers,
+        fault: None,
     })
 }
 
