@@ -1,8 +1,9 @@
 //! The outcome of a command, as the table gives it.
 
 use assembler::{AsmCause, AsmRefusal, Unfit};
-use outcomes::{Ending, Outcome, Refusal};
+use outcomes::{Ending, MadeFault, Outcome, Refusal};
 use semantics::report::End;
+use tags::value::{FaultKind, NodeNumber, Origin};
 
 /// The number that the word is; 0 where it is none.
 fn number(word: Option<&str>) -> u64 {
@@ -19,6 +20,28 @@ fn ended(end: End, frames: u64, credits: u64, readers: u64) -> Outcome {
         credits,
         readers,
         fault: None,
+    })
+}
+
+/// A run at rest, of which an output has a fault of this kind, made at this node of this block.
+fn faulty(kind: &str, block: Option<&str>, node: Option<&str>) -> Outcome {
+    let kind = match kind {
+        "zero" => FaultKind::Zero,
+        _ => FaultKind::Range,
+    };
+    let origin = match block {
+        Some(_) => Origin::At {
+            block: u8::try_from(number(block)).unwrap_or(0),
+            node: NodeNumber::new((number(node) % 1024) as u16),
+        },
+        None => Origin::Untold,
+    };
+    Outcome::Reported(Ending::Run {
+        end: End::Rest,
+        frames: 0,
+        credits: 0,
+        readers: 0,
+        fault: Some(MadeFault { kind, origin }),
     })
 }
 
@@ -42,6 +65,7 @@ pub fn outcome_of(words: &str) -> Option<Outcome> {
     let outcome = match words.next()? {
         "done" => Outcome::Done,
         "differed" => Outcome::Differed,
+        "faulty" => faulty(words.next()?, words.next(), words.next()),
         "steps" => ended(End::Steps, 0, 0, 0),
         "memory" => ended(End::Memory, 0, 0, 0),
         "rest" => ended(End::Rest, 0, 0, number(words.next())),

@@ -5,7 +5,7 @@
 //! - `*FIRST LAST PIECE` is the piece, once for each number from FIRST to LAST;
 //! - `@DIGITS` is a word of its input, of 16 hexadecimal digits, in 8 bytes, the lowest first;
 //! - `>LINE` is a line of an output that takes the place of what the program writes, and `=WORDS` is the outcome: `done`,
-//!   `differed`, `steps`, `memory`, `rest READERS`, `starved FRAMES CREDITS`, `stuck RULE`, `refused input`, `refused memory`, `refused slots
+//!   `differed`, `faulty KIND BLOCK NODE` or `faulty KIND`, `steps`, `memory`, `rest READERS`, `starved FRAMES CREDITS`, `stuck RULE`, `refused input`, `refused memory`, `refused slots
 //!   BLOCK`, `refused far BLOCK`, `refused listing LINE` (too many literals), or `unwritten`;
 //! - `# WORDS` is a comment.
 //!
