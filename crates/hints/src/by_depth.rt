@@ -25,8 +25,8 @@ const HALVES: u32 = 10;
 enum Tried {
     /// At rest.
     Rested,
-    /// Requests wait.
-    Starved,
+    /// Requests wait, and so many readers.
+    Starved(u64),
     /// It was not run to its end.
     Unknown,
 }
@@ -41,7 +41,7 @@ fn try_run<A: Allocator + Clone>(
     match run_code_quietly_in_turn(alloc.clone()?, code, inputs, config, Take::Depth) {
         Ok(report) => Ok(match report.end {
             End::Rest => Tried::Rested,
-            End::Starved => Tried::Starved,
+            End::Starved => Tried::Starved(report.deferred),
             _ => Tried::Unknown,
         }),
         Err(Fault::Memory) => Err(AllocError),
@@ -64,7 +64,7 @@ fn fewest_frames<A: Allocator + Clone>(
         }
         match try_run(alloc, code, inputs, Config { frames, ..config })? {
             Tried::Rested => enough = frames,
-            Tried::Starved | Tried::Unknown => few = frames,
+            Tried::Starved(_) | Tried::Unknown => few = frames,
         }
     }
     Ok(enough)
@@ -86,7 +86,8 @@ fn advice_for_code<A: Allocator + Clone>(
     };
     Ok(match try_run(alloc, code, inputs, config)? {
         Tried::Rested => Special::Depth(Some(fewest_frames(alloc, code, inputs, config)?)),
-        Tried::Starved => Special::Nothing,
+        Tried::Starved(0) => Special::Nothing,
+        Tried::Starved(_) => Special::Unfilled,
         Tried::Unknown => Special::Depth(None),
     })
 }

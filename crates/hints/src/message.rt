@@ -30,6 +30,8 @@ pub enum Special {
     Lines(LineList),
     /// The order of tokens that may be tried, too, and the frames of each element with which a run in that order came to rest, where one did.
     Depth(Option<u64>),
+    /// That readers wait for cells, whatever the order of tokens.
+    Unfilled,
 }
 
 /// A cause, with two numbers.
@@ -64,6 +66,9 @@ impl Display for Special {
             Special::Readers(cells) => Display::fmt(&cells.count, f),
             Special::Loops(lines) => lines.show_loops(f),
             Special::Lines(lines) => lines.show(f),
+            Special::Unfilled => f.write_str(
+                "; readers wait for cells then, so write what fills a cell before what reads it",
+            ),
             Special::Depth(None) => f.write_str(", or try --take depth"),
             Special::Depth(Some(frames)) => {
                 write!(

@@ -390,19 +390,25 @@ pub fn runs_in_turn(options: &RunOptions) -> bool {
     options.mode == Some(Mode::One)
 }
 
-/// What is said of the order of tokens to one whose run wants frames, where there is another order that may want fewer.
-fn order_advice(request: &Request) -> Special {
-    match request {
-        Request::Run(options)
-        | Request::RunEnough(options)
-        | Request::Exec { options, .. }
-        | Request::Trace { options, .. }
-            if options.mode != Some(Mode::Free) && options.take == Some(Take::Oldest) =>
-            Special::Depth(None),
-        Request::Profile { options, .. } if options.take == Some(Take::Oldest) => Special::Depth(
-            None,
-        ),
+/// What is said to one whose run wants frames, while so many readers wait: of the order of tokens, where there is another one that may want fewer, or of the
+/// order in which cells are filled and read.
+fn order_advice(request: &Request, readers: u64) -> Special {
+    let Some(options) = options_of(request) else {
+        return Special::Nothing;
+    };
+    match (request, options.mode, options.take) {
+        (Request::Orders { .. }, _, _) | (_, Some(Mode::Free), _) => Special::Nothing,
+        (_, _, Some(Take::Oldest)) => Special::Depth(None),
+        (_, _, Some(Take::Depth)) if readers > 0 => Special::Unfilled,
         _ => Special::Nothing,
+    }
+}
+
+/// How many readers wait at the end.
+fn readers_of(ending: Ending) -> u64 {
+    match ending {
+        Ending::Run { readers, .. } => readers,
+        Ending::Meaning(_) => 0,
     }
 }
 
@@ -463,8 +469,9 @@ pub fn end_fault<'a>(case: &Case<'_, 'a>, ending: Ending) -> Option<Found<'a>>
     }
     let counted = end_cause(case, ending)?;
     let others = [0, frames_of(case.request)];
-    let found = with_stores(case, shown(case, rule_of(ending), counted, others));
-    Some(found.with([Special::Nothing, order_advice(case.request)]))
+    let found = shown(case, rule_of(ending), counted, others);
+    let advice = order_advice(case.request, readers_of(ending));
+    Some(with_stores(case, found.with([Special::Nothing, advice])))
 }
 
 /// Why the run of a row of a profile did not end at rest.
@@ -478,7 +485,7 @@ fn row_fault<'a>(case: &Case<'_, 'a>, row: FailedRow) -> Option<Found<'a>>
     };
     let frames = row.elements.saturating_mul(each);
     let found = shown(case, Some("failed-row"), counted, [row.elements, frames]);
-    Some(found.with([Special::Nothing, order_advice(case.request)]))
+    Some(found.with([Special::Nothing, order_advice(case.request, 0)]))
 }
 
 /// Why the meaning of a profile did not end at rest, or else the run of a row.
