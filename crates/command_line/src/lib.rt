@@ -5,10 +5,12 @@ ghost use Rattle.std.specs.Prelude.{◌≡◌, map};
 ghost use Rattle.command_line.specs.Words.{after_end, asked, asked_of, command_named, ended, help_asked, no_command_asked, no_inputs, nothing};
 ghost use Rattle.command_line.specs.Words.{topic_named, version_line, with_inputs};
 
+mod given;
 mod inputs;
 mod options;
 mod sizes;
 
+pub use given::{FileName, FileRequest, Given, read_given};
 pub use inputs::Inputs;
 use options::{
     Collected, OptionName, Step, asks_help, asks_version, request_of, takes_inputs, word_met,
