@@ -1,5 +1,5 @@
 -- Which file the words of a command line name, and what is asked for with it. The words are the arguments after the program's name, each a list of bytes.
-use Rattle.std.specs.Prelude.{ℕ, ◌&&◌, Bool, true, false, is_some, not, List, [], ◌∷◌, if◌then◌else◌, Option, Some, None, unwrap_or}
+use Rattle.std.specs.Prelude.{ℕ, ◌&&◌, Bool, true, false, is_some, not, List, [], ◌∷◌, if◌then◌else◌, Option, Some, None, unwrap_or, codes}
 use Rattle.std.specs.Option.{option_map_or}
 use Rattle.graph_file.specs.Fields.{literal_of}
 use Rattle.command_line.specs.declared.Command.{Command}
@@ -14,6 +14,22 @@ use Rattle.command_line.specs.declared.options.Frames.{Frames}
 use Rattle.command_line.specs.declared.options.OptionName.{OptionName}
 use Rattle.command_line.specs.declared.options.Step.{Step}
 use Rattle.command_line.specs.Words.{Text, command_named, is_flag, no_inputs, nothing, request_of, takes_inputs, with_input, with_inputs, word_met}
+
+-- THE WORD of a command
+abbrev pub command_word : Command → Text
+command_word Command.Run = codes "run"
+command_word Command.Mean = codes "mean"
+command_word Command.Check = codes "check"
+command_word Command.Compile = codes "compile"
+command_word Command.Dis = codes "dis"
+command_word Command.Upgrade = codes "upgrade"
+command_word Command.Dot = codes "dot"
+command_word Command.Exec = codes "exec"
+command_word Command.Asm = codes "asm"
+command_word Command.Trace = codes "trace"
+command_word Command.Profile = codes "profile"
+command_word Command.Orders = codes "orders"
+command_word Command.Lower = codes "lower"
 
 -- A PLAIN WORD: no option waits for it as its value, and it is no flag
 abbrev pub is_plain : Option OptionName → Text → Bool
