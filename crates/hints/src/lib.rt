@@ -23,7 +23,7 @@ mod texts;
 mod words;
 
 use catalog::{Text, found};
-use command_line::{Asked, Request, read_words};
+use command_line::{Asked, Given, Inputs, Request, read_given, read_words};
 use graphs::{code_fault, graph_fault};
 pub use line::{Hint, Line};
 use lines::{line_at, split_graph, text_of, word_at};
@@ -109,7 +109,11 @@ fn placed<'a, S: AsStr>(
         Refusal::Start(fault) => start_fault(case, fault),
         Refusal::TooManyFrames(frames) => Some(too_many_frames(case.request, frames)),
         Refusal::NotAtRest => Some(not_at_rest(case.request)),
-        Refusal::InputLine(number) if is_of_object(case.request) => given_fault(rest, number),
+        Refusal::InputLine(number) if is_of_object(case.request) || case.has_given() => {
+            given_fault(rest, number, case.inputs.is_some())
+        }
+        // A file has a program only where it is lowered.
+        Refusal::Program(_) => of_input(case, "lower", refusal),
         _ => of_input(case, command, refusal),
     }
 }
@@ -132,6 +136,18 @@ fn unlocated<'a>(request: &Request, refusal: Refusal) -> Found<'a> {
     nowhere(cause, [""; 2]).with([kind; 2])
 }
 
+/// What was asked for, and where the words name a file the inputs after its name. Words that ask for nothing have a mistake, and no
+/// other outcome.
+fn asked_of<S: AsStr>(words: &[S]) -> (Request, Option<Inputs>) {
+    if let Given::File(file) = read_given(words) {
+        return (file.request, Some(file.inputs));
+    }
+    match read_words(words) {
+        Asked::Request(request) => (request, None),
+        _ => (Request::Check, None),
+    }
+}
+
 /// Why the words did not get what they asked for, where there is something to say.
 fn cause_of<'a, S: AsStr>(
     words: &'a [S],
@@ -140,12 +156,14 @@ fn cause_of<'a, S: AsStr>(
 ) -> Option<Found<'a>>
     ensures { is_some result ≡ wants_hint outcome }
 {
-    // Words that ask for nothing have a mistake, and no other outcome.
-    let request = &match read_words(words) {
-        Asked::Request(request) => request,
-        _ => Request::Check,
+    let (request, inputs) = asked_of(words);
+    let request = &request;
+    let inputs = inputs.as_ref();
+    let case = Case {
+        request,
+        input,
+        inputs,
     };
-    let case = Case { request, input };
     match outcome {
         None => Some(nowhere("unwritten", [""; 2])),
         Some(Outcome::Done | Outcome::Drawn(_)) => None,
@@ -250,10 +268,25 @@ fn enough_frames<'a, A: Allocator + Clone>(
     }))
 }
 
-/// The line that shows this cause.
-fn line_of<A: Allocator + Clone>(alloc: A, found: &Found<'_>) -> Result<Line<A>, AllocError> {
+/// The line that shows this cause. Of a file it says what it would say of standard input.
+fn line_of<A: Allocator + Clone>(
+    alloc: A,
+    found: &Found<'_>,
+    is_file: bool,
+) -> Result<Line<A>, AllocError> {
     let text = format!(in alloc.clone()?; "{found}")?;
-    Line::of(alloc, text.as_str())
+    match text.as_str().strip_prefix("standard input is ") {
+        Some(rest) if is_file => {
+            let text = format!(in alloc.clone()?; "the file is {rest}")?;
+            Line::of(alloc, text.as_str())
+        }
+        _ => Line::of(alloc, text.as_str()),
+    }
+}
+
+/// Whether the words name a file.
+fn name_file<S: AsStr>(words: &[S]) -> bool {
+    matches!(read_given(words), Given::File(_))
 }
 
 /// The hint that a person gets after a command. `words` are the words of the command line, the program's name first. `input` is
@@ -267,7 +300,8 @@ pub fn explain<'a, S: AsStr, A: Allocator + Clone>(
 ) -> Result<Option<Hint<A>>, AllocError>
     ensures { IfOk result (λ hint. is_some hint ≡ wants_hint outcome) }
 {
-    let Some(found) = cause_of(words.get(1..).unwrap_or(words), input, outcome) else {
+    let words = words.get(1..).unwrap_or(words);
+    let Some(found) = cause_of(words, input, outcome) else {
         return Ok(None);
     };
     let found = match named_cells(alloc.clone()?, input, outcome)? {
@@ -280,10 +314,11 @@ pub fn explain<'a, S: AsStr, A: Allocator + Clone>(
         None => found,
     };
     let found = enough_frames(alloc.clone()?, &found, input)?.unwrap_or(found);
+    let is_file = name_file(words);
     let place = match found.place {
-        Some(cause) => Some(line_of(alloc.clone()?, &Found { cause, ..found })?),
+        Some(cause) => Some(line_of(alloc.clone()?, &Found { cause, ..found }, is_file)?),
         None => None,
     };
-    let cause = line_of(alloc, &found)?;
+    let cause = line_of(alloc, &found, is_file)?;
     Ok(Some(Hint { place, cause }))
 }
