@@ -1,3 +1,4 @@
 pub mod WordForms
 pub mod Walks
 pub mod Included
+pub mod Givens

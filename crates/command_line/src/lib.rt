@@ -4,11 +4,14 @@
 ghost use Rattle.std.specs.Prelude.{◌≡◌, map};
 ghost use Rattle.command_line.specs.Words.{after_end, asked, asked_of, command_named, ended, help_asked, no_command_asked, no_inputs, nothing};
 ghost use Rattle.command_line.specs.Words.{topic_named, version_line, with_inputs};
+ghost use Rattle.command_line.specs.Files.{command_word};
 
+mod given;
 mod inputs;
 mod options;
 mod sizes;
 
+pub use given::{FileName, FileRequest, Given, read_given};
 pub use inputs::Inputs;
 use options::{
     Collected, OptionName, Step, asks_help, asks_version, request_of, takes_inputs, word_met,
@@ -155,6 +158,29 @@ pub enum Command {
     Profile,
     Orders,
     Lower,
+}
+
+impl Command {
+    /// The word of the command.
+    pub fn word(self) -> &'static str
+        ensures { result.now ≡ command_word self }
+    {
+        match self {
+            Command::Run => "run",
+            Command::Mean => "mean",
+            Command::Check => "check",
+            Command::Compile => "compile",
+            Command::Dis => "dis",
+            Command::Upgrade => "upgrade",
+            Command::Dot => "dot",
+            Command::Exec => "exec",
+            Command::Asm => "asm",
+            Command::Trace => "trace",
+            Command::Profile => "profile",
+            Command::Orders => "orders",
+            Command::Lower => "lower",
+        }
+    }
 }
 
 /// The topic of a request for help.

@@ -488,7 +488,7 @@ fn after(word: &str, first: char) -> Option<&str>
 }
 
 /// A hyphen and something after it.
-fn is_flag(word: &str) -> bool
+pub(crate) fn is_flag(word: &str) -> bool
     ensures { result ≡ is_flag word.now }
 {
     match after(word, '-') {

@@ -374,24 +374,6 @@ fn error_of<S: AsStr>(alloc: Global, words: &[S]) -> Result<Option<Error>, Alloc
     }
 }
 
-fn name_of(command: command_line::Command) -> &'static str {
-    match command {
-        command_line::Command::Run => "run",
-        command_line::Command::Mean => "mean",
-        command_line::Command::Check => "check",
-        command_line::Command::Compile => "compile",
-        command_line::Command::Dis => "dis",
-        command_line::Command::Upgrade => "upgrade",
-        command_line::Command::Dot => "dot",
-        command_line::Command::Exec => "exec",
-        command_line::Command::Asm => "asm",
-        command_line::Command::Trace => "trace",
-        command_line::Command::Profile => "profile",
-        command_line::Command::Orders => "orders",
-        command_line::Command::Lower => "lower",
-    }
-}
-
 /// The words that ask for help on the topic.
 fn words_of<'a>(alloc: Global, program: &'a str, topic: Topic) -> Result<Vec<&'a str>, AllocError> {
     let mut words = Vec::new(alloc);
@@ -399,7 +381,7 @@ fn words_of<'a>(alloc: Global, program: &'a str, topic: Topic) -> Result<Vec<&'a
     words.push("help")?;
     match topic {
         Topic::Program => {}
-        Topic::Of(command) => words.push(name_of(command))?,
+        Topic::Of(command) => words.push(command.word())?,
         Topic::Help => words.push("help")?,
     }
     Ok(words)

@@ -12,3 +12,4 @@ pub mod Answered
 pub mod Assembled
 pub mod Lowered
 pub mod Piped
+pub mod Filed

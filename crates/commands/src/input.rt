@@ -3,12 +3,10 @@
 ghost use Rattle.std.specs.Prelude.{◌≡◌, ◌++◌, ◌<◌, ◌≤◌, IfOk, IfSome, MatchResult, Ok, length};
 ghost use Rattle.commands.specs.Input.{begins_main, graph_length, without_end, integers_of, IsBadInput};
 
+use files::{Unread, read_bytes};
 use graph_file::{Parts, literal};
-use std::alloc::{AllocError, Allocator};
+use std::alloc::Allocator;
 use std::io::Read;
-
-/// The most bytes that standard input may have.
-pub const LIMIT: usize = 67_108_864;
 
 /// Why there is no input.
 #[derive(Debug, Drop)]
@@ -18,34 +16,16 @@ pub enum InputFault {
     Memory,
 }
 
-impl From<AllocError> for InputFault {
-    fn from(_error: AllocError) -> InputFault
-        ensures { result ≡ InputFault.Memory }
-    {
-        InputFault::Memory
-    }
-}
-
 /// Reads all bytes of the reader.
 pub fn read_input<A: Allocator, R: Read>(alloc: A, reader: &mut R) -> Result<Vec<u8, A>, InputFault>
     ensures all { IfOk result (λ v. IfSome (R.remaining reader.old) (λ xs. v.items ≡ xs)) }
     ensures few { IfOk result (λ v. length v.items ≤ 67108864) }
 {
-    let mut bytes = Vec::new(alloc);
-    let mut chunk = [0u8; 4096];
-    for _ in 0..=LIMIT {
-        let Ok(count) = reader.read(&mut chunk) else {
-            return Err(InputFault::Input);
-        };
-        if count == 0 {
-            return Ok(bytes);
-        }
-        bytes.extend_from_slice(&chunk[..count])?;
-        if bytes.len() > LIMIT {
-            return Err(InputFault::Input);
-        }
+    match read_bytes(alloc, reader) {
+        Ok(bytes) => Ok(bytes),
+        Err(Unread::Memory) => Err(InputFault::Memory),
+        Err(_unread) => Err(InputFault::Input),
     }
-    Err(InputFault::Input)
 }
 
 #[tactic(auto, unfolding(crate::specs::Input::graph_bytes))]

@@ -7,6 +7,7 @@ mod comparing;
 mod drawing;
 mod enough;
 pub mod feed;
+pub mod filed;
 pub mod input;
 pub mod lowered;
 pub mod orders;

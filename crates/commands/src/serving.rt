@@ -393,7 +393,12 @@ pub fn print_exec<
 }
 
 /// Prints what the words of the command line ask for, of all that the reader has.
-fn answer<R: Threads + Wait + Sync, A: Allocator + Clone + Send + Sync, G: Gate + Sync, W: Write>(
+pub(crate) fn answer<
+    R: Threads + Wait + Sync,
+    A: Allocator + Clone + Send + Sync,
+    G: Gate + Sync,
+    W: Write,
+>(
     request: &Request,
     input: &[u8],
     writer: &mut W,
@@ -493,7 +498,7 @@ fn say<W: Write>(
 }
 
 /// The words without the program's name.
-fn arguments_of<S>(words: &[S]) -> &[S]
+pub fn arguments_of<S>(words: &[S]) -> &[S]
     ensures { result.now ≡ drop 1 words.now }
 {
     match words.split_first() {

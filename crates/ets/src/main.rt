@@ -1,7 +1,7 @@
 //! The program `ets`: compiles dataflow graphs for an explicit token store machine, and runs them.
 #![tactic(auto)]
 
-use process::run_process;
+use process::{SystemFiles, run_program};
 use std::io::{ErrorKind, Write};
 use std::process::ExitCode;
 use std::{env, io};
@@ -26,11 +26,12 @@ fn main(rt: HostRuntime) -> io::Result<ExitCode> {
     let Ok(words): Result<Vec<String>, _> = given.collect(rt.alloc()) else {
         return Ok(refused(&mut rt.stderr()));
     };
-    let ended = run_process(
+    let ended = run_program(
         &words,
         rt.stdin(),
         io::writer(&rt),
         &mut rt.stderr(),
+        &SystemFiles { rt: &rt },
         rt.alloc(),
         &rt,
     );

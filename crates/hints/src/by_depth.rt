@@ -3,7 +3,7 @@
 use crate::message::{Found, Special};
 use crate::readers::read_run;
 use crate::runs::runs_in_turn;
-use command_line::{Asked, Inputs, Request, RunOptions, read_words};
+use command_line::{Inputs, Request, RunOptions};
 use driver::compiling::compile_graph;
 use driver::fault::Fault;
 use driver::running::{open_code, run_code_quietly_in_turn};
@@ -12,7 +12,6 @@ use schedule::config::Config;
 use schedule::take::Take;
 use semantics::report::End;
 use std::alloc::{AllocError, Allocator};
-use std::convert::AsStr;
 
 /// How many events all elements of a run that is tried make at most.
 const EVENTS: u64 = 1_000_000;
@@ -131,18 +130,18 @@ fn advice<A: Allocator + Clone>(
     }
 }
 
-/// What was found, with what is said of the order by depth, where the run wanted frames and that order is named. `words` are those after the program's
-/// name.
-pub fn advised<'a, S: AsStr, A: Allocator + Clone>(
+/// What was found, with what is said of the order by depth, where the run of this request wanted frames and that order is
+/// named.
+pub fn advised<'a, A: Allocator + Clone>(
     alloc: &A,
-    words: &[S],
+    request: &Request,
     input: Option<&[u8]>,
     found: Found<'a>,
 ) -> Result<Found<'a>, AllocError> {
     let wants_frames = found.cause == "no-frame" || found.cause == "no-frame-no-credit";
-    match (found.specials[1], read_words(words), input) {
-        (Special::Depth(_), Asked::Request(request), Some(input)) if wants_frames => {
-            let special = advice(alloc, &request, input)?;
+    match (found.specials[1], input) {
+        (Special::Depth(_), Some(input)) if wants_frames => {
+            let special = advice(alloc, request, input)?;
             Ok(found.with([Special::Nothing, special]))
         }
         _ => Ok(found),

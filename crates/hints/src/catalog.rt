@@ -15,20 +15,22 @@ other-refusal: docs/FORMATS.md says what that means, under `Refusals`
 too-many-slots: one of its loops, or of its places where two words meet, finds none of the 512 slots of a frame open: move some nodes into a block of their own, and call that
 too-far: it has more than 32768 instructions, so move some nodes into a block of their own, and call that; or the object has more than 65536 different literals
 orders-differ: reports differ only where a second store comes to a cell, frames or credits are wanted, steps or memory run out, or readers wait at the end: compare the lines `deferred` and `end` of both
-no-command: a command comes first; the most used are `ets lower < PROGRAM | ets run`, `ets run < GRAPH`, `ets mean`, `ets trace` and `ets profile`; `ets help` has all
+no-command: a command comes first; the most used are `ets run FILE`, where FILE has a program or a graph, `ets mean`, `ets trace` and `ets profile`; `ets help` has all
 commands: the commands are lower, run, exec, mean, trace, profile, orders, check, compile, dis, asm, upgrade, dot and help
 help: `ets help` takes at most one command: lower, run, exec, mean, trace, profile, orders, check, compile, dis, asm, upgrade, dot or help
-file: `ets $1` reads standard input: give it the file by `<`, as in `ets $1 < $2`
+file: a command comes before the name of a file, as in `ets $1 $2`
 negative-input: `$2` is read as an option: an input below 0 comes after `--`, as in `ets exec -- $2`
-no-inputs: `ets $1` takes no inputs from the command line: they come after the graph on standard input, one a line
-no-options: `ets $1` has no options, and reads standard input: `ets $1 < FILE`
+negative-given: `$2` is read as an option: an input below 0 comes after `--`, as in `ets $1 FILE -- $2`
+one-word-more: `ets $1` takes the name of one file and no inputs, and `$2` is a word more
+no-options: `ets $1` has no options; it reads a file, `ets $1 FILE`, or standard input, `ets $1 < FILE`
 no-input-line: line $a of the inputs is empty
 input-line: line $a of the inputs is `$p`
 input-kinds: inputs are integers, one a line, and no empty lines
 return-in-inputs: lines end with CR LF here, and with LF alone in inputs: `tr -d '\r'` takes the CRs out
 graph-inputs: block $1 has $b input$B, and the lines after the graph have $a integer$A
+given-inputs: block $1 has $b input$B, and the command line has $a integer$A
 object-inputs: code block $c, which is run, has $b input$B, and the command line has $a integer$A
-many-inputs: the command line has more than 16 inputs, and no object takes more than 16
+many-inputs: the command line has more than 16 inputs, and no block takes more than 16
 elements: --elements is 1 to 16, and not $a
 frames: --frames is 1 to 1024, and not $a
 mode: --mode is `one`, `rounds` or `free`
@@ -166,7 +168,7 @@ other/listing/graph: standard input is a listing, and `ets $1` reads a graph; `e
 other/listing/program: standard input is a listing, and `ets $1` reads a program; `ets asm` makes an object of a listing
 other/listing/object: standard input is a listing: `ets asm` makes an object of it
 options/run: the options of `ets $1` are --elements N (1 to 16), --frames N (1 to 1024) or enough, --steps N (at most 4294967296), --mode one, rounds or free, --turn N (1 to 65536), and --take oldest or depth, each at most once
-options/exec: the options of `ets $1` are --elements N (1 to 16), --frames N (1 to 1024), --steps N (at most 4294967296), --mode one, rounds or free, --turn N (1 to 65536), and --take oldest or depth, each at most once; all other words are inputs
+options/exec: the options of `ets $1` are --elements N (1 to 16), --frames N (1 to 1024), --steps N (at most 4294967296), --mode one, rounds or free, --turn N (1 to 65536), and --take oldest or depth, each at most once; all other words are a file and inputs
 options/trace: the options of `ets $1` are --last N, --format text, chrome or html, --elements N (1 to 16), --frames N (1 to 1024), --steps N (at most 4294967296), --mode one, rounds or free, --turn N (1 to 65536), and --take oldest or depth, each at most once
 options/profile: the options of `ets $1` are --elements N,N,.. (each 1 to 16), --frames N (1 to 1024), --steps N (at most 4294967296), --take oldest or depth, and --svg, each at most once
 options/orders: the options of `ets $1` are --count N, --seed N, --elements N (1 to 16), --frames N (1 to 1024), --steps N (at most 4294967296), and --take oldest or depth, each at most once

@@ -27,7 +27,7 @@ mod words;
 
 use by_depth::advised;
 use catalog::{Text, found};
-use command_line::{Asked, Request, read_words};
+use command_line::{Asked, Given, Inputs, Request, read_given, read_words};
 use graphs::{code_fault, graph_fault};
 pub use line::{Hint, Line};
 use lines::{line_at, split_graph, text_of, word_at};
@@ -113,7 +113,11 @@ fn placed<'a, S: AsStr>(
         Refusal::Start(fault) => start_fault(case, fault),
         Refusal::TooManyFrames(frames) => Some(too_many_frames(case.request, frames)),
         Refusal::NotAtRest => Some(not_at_rest(case.request)),
-        Refusal::InputLine(number) if is_of_object(case.request) => given_fault(rest, number),
+        Refusal::InputLine(number) if is_of_object(case.request) || case.has_given() => {
+            given_fault(rest, number, case.inputs.is_some())
+        }
+        // A file has a program only where it is lowered.
+        Refusal::Program(_) => of_input(case, "lower", refusal),
         _ => of_input(case, command, refusal),
     }
 }
@@ -136,6 +140,18 @@ fn unlocated<'a>(request: &Request, refusal: Refusal) -> Found<'a> {
     nowhere(cause, [""; 2]).with([kind; 2])
 }
 
+/// What was asked for, and where the words name a file the inputs after its name. Words that ask for nothing have a mistake, and no
+/// other outcome.
+fn asked_of<S: AsStr>(words: &[S]) -> (Request, Option<Inputs>) {
+    if let Given::File(file) = read_given(words) {
+        return (file.request, Some(file.inputs));
+    }
+    match read_words(words) {
+        Asked::Request(request) => (request, None),
+        _ => (Request::Check, None),
+    }
+}
+
 /// Why the words did not get what they asked for, where there is something to say.
 fn cause_of<'a, S: AsStr>(
     words: &'a [S],
@@ -145,15 +161,14 @@ fn cause_of<'a, S: AsStr>(
 ) -> Option<Found<'a>>
     ensures { is_some result ≡ wants_hint outcome }
 {
-    // Words that ask for nothing have a mistake, and no other outcome.
-    let request = &match read_words(words) {
-        Asked::Request(request) => request,
-        _ => Request::Check,
-    };
+    let (request, inputs) = asked_of(words);
+    let request = &request;
+    let inputs = inputs.as_ref();
     let case = Case {
         request,
         input,
         program,
+        inputs,
     };
     match outcome {
         None => Some(nowhere("unwritten", [""; 2])),
@@ -261,10 +276,25 @@ fn enough_frames<'a, A: Allocator + Clone>(
     }))
 }
 
-/// The line that shows this cause.
-fn line_of<A: Allocator + Clone>(alloc: A, found: &Found<'_>) -> Result<Line<A>, AllocError> {
+/// The line that shows this cause. Of a file it says what it would say of standard input.
+fn line_of<A: Allocator + Clone>(
+    alloc: A,
+    found: &Found<'_>,
+    is_file: bool,
+) -> Result<Line<A>, AllocError> {
     let text = format!(in alloc.clone()?; "{found}")?;
-    Line::of(alloc, text.as_str())
+    match text.as_str().strip_prefix("standard input is ") {
+        Some(rest) if is_file => {
+            let text = format!(in alloc.clone()?; "the file is {rest}")?;
+            Line::of(alloc, text.as_str())
+        }
+        _ => Line::of(alloc, text.as_str()),
+    }
+}
+
+/// Whether the words name a file.
+fn name_file<S: AsStr>(words: &[S]) -> bool {
+    matches!(read_given(words), Given::File(_))
 }
 
 /// What was found, with the cells for which readers wait, where they are known, at a fetch that waits.
@@ -302,17 +332,18 @@ fn explained<'a, S: AsStr, A: Allocator + Clone>(
     let Some(found) = cause_of(words, program, input, outcome) else {
         return Ok(None);
     };
-    let found = advised(&alloc, words, input, found)?;
+    let found = advised(&alloc, &asked_of(words).0, input, found)?;
     let found = match named_cells(alloc.clone()?, input, outcome)? {
         Some(cells) => with_cells(found, program, input.unwrap_or(b""), cells),
         None => found,
     };
     let found = enough_frames(alloc.clone()?, &found, program, input)?.unwrap_or(found);
+    let is_file = name_file(words);
     let place = match found.place {
-        Some(cause) => Some(line_of(alloc.clone()?, &Found { cause, ..found })?),
+        Some(cause) => Some(line_of(alloc.clone()?, &Found { cause, ..found }, is_file)?),
         None => None,
     };
-    let cause = line_of(alloc, &found)?;
+    let cause = line_of(alloc, &found, is_file)?;
     Ok(Some(Hint { place, cause }))
 }
 

@@ -14,7 +14,7 @@ use crate::lines::{
 };
 use crate::message::{Counted, Found, Special, nowhere};
 use crate::sources::{Program, Sought as SoughtNodes, Source};
-use crate::words::{Sought, first_of};
+use crate::words::{Sought, first_of, plain_at};
 use command_line::{Inputs, Mode, Request, RunOptions, Sizes, Take};
 use object_view::Object;
 use oracle::MeanEnd;
@@ -23,6 +23,8 @@ use schedule::config::StartFault;
 use semantics::report::End;
 use std::convert::AsStr;
 
+/// The most inputs of a block.
+const MOST_INPUTS: u64 = 16;
 /// The most steps of an element.
 const STEPS: u64 = 4_294_967_296;
 /// The most steps of a turn.
@@ -47,6 +49,8 @@ pub struct Case<'r, 'a> {
     pub input: Option<&'a [u8]>,
     /// The program that the graph of the input was made of, if that is known.
     pub program: Option<Program<'r, 'a>>,
+    /// Where the words name a file: the inputs after its name that take the place of those in the file.
+    pub inputs: Option<&'r Inputs>,
 }
 
 impl<'r, 'a> Case<'r, 'a> {
@@ -58,6 +62,15 @@ impl<'r, 'a> Case<'r, 'a> {
         let graph = split_graph(self.input?).0;
         let program = self.program;
         Some(Source { graph, program })
+    }
+
+    /// Whether inputs among the words took the place of those in a file.
+    pub fn has_given(&self) -> bool {
+        match self.inputs {
+            Some(Inputs::Integers(integers)) => !integers.as_slice().is_empty(),
+            Some(Inputs::NoInteger(_) | Inputs::TooMany) => true,
+            None => false,
+        }
     }
 }
 
@@ -77,9 +90,13 @@ pub fn input_fault(input: &[u8], number: u64) -> Found<'_> {
     }
 }
 
-/// The cause for input `number` of the words after `exec`, which is the first that is not an integer.
-pub fn given_fault<'a, S: AsStr>(words: &'a [S], number: u64) -> Option<Found<'a>> {
-    let input = first_of(Sought::Input, words)?.as_bytes();
+/// The cause for input `number` of the words after a command, which is the first that is not an integer. `has_file` says whether
+/// they name a file.
+pub fn given_fault<'a, S: AsStr>(words: &'a [S], number: u64, has_file: bool) -> Option<Found<'a>> {
+    let input = match has_file {
+        true => plain_at(words, number)?.as_bytes(),
+        false => first_of(Sought::Input, words)?.as_bytes(),
+    };
     Some(at_input(
         "input $a of the command line is `$p`",
         literal_fault(input),
@@ -88,14 +105,20 @@ pub fn given_fault<'a, S: AsStr>(words: &'a [S], number: u64) -> Option<Found<'a
     ))
 }
 
-/// The cause for a run of this graph that was given another number of inputs than main has.
-fn inputs_fault(input: &[u8]) -> Option<Found<'_>> {
+/// The cause for a run of this graph that was given another number of inputs than main has. `is_given` says whether they are those of
+/// the command line.
+fn inputs_fault(input: &[u8], is_given: bool) -> Option<Found<'_>> {
     let (text, lines) = split_graph(input);
     let name = text_at(line_at(text, last_line(text)), 1);
     let wants = Block::of(text, Some(name), 0)?.inputs;
     let has = lines.split(is_line_feed).filter(is_full).count() as u64;
     let numbers = [has, wants, 0, 0, 0, 0];
-    Some(Found::of(None, "graph-inputs", [name; 2], [b""; 3], numbers))
+    let cause = match is_given {
+        true if has > MOST_INPUTS => "many-inputs",
+        true => "given-inputs",
+        false => "graph-inputs",
+    };
+    Some(Found::of(None, cause, [name; 2], [b""; 3], numbers))
 }
 
 /// The cause for a run of an object that was given these inputs, where its main block wants another number.
@@ -187,7 +210,7 @@ pub fn start_fault<'a>(case: &Case<'_, 'a>, fault: StartFault) -> Option<Found<'
     if let Request::Exec { inputs, .. } = case.request {
         return object_inputs_fault(input, inputs);
     }
-    inputs_fault(input)
+    inputs_fault(input, case.has_given())
 }
 
 /// The most frames of an element, and of all elements.

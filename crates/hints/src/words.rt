@@ -10,14 +10,10 @@ use std::convert::AsStr;
 /// A word that is looked for among those after a command.
 #[derive(Clone, Copy)]
 pub enum Sought {
-    /// One that is neither an option nor the value of one.
-    File,
     /// An integer below 0 before `--` that is not the value of an option.
     Negative,
     /// An input that is no integer, after `exec`, where there is no mistake.
     Input,
-    /// This option.
-    Option(&'static str),
 }
 
 /// Whether the next word may be the value of this option.
@@ -30,8 +26,6 @@ fn is_sought(sought: Sought, word: &str, is_value: bool, is_ended: bool) -> bool
     let is_option = word.starts_with('-');
     let is_integer = literal(word.as_bytes()).is_some();
     match sought {
-        Sought::Option(option) => is(word, option),
-        Sought::File => !is_option && !is_value && !word.is_empty(),
         Sought::Negative => is_option && is_integer && !is_value && !is_ended,
         Sought::Input => !is_integer && (is_ended || !is_value && (!is_option || is(word, "-"))),
     }
@@ -53,13 +47,22 @@ pub fn first_of<'a, S: AsStr>(sought: Sought, words: &'a [S]) -> Option<&'a str>
     None
 }
 
-/// The command with the option, one of these words, by which it reads or prints something else.
-fn reading<'a, S: AsStr>(command: &'a str, words: &'a [S]) -> &'a str {
-    match command {
-        "dis" if first_of(Sought::Option("--literals"), words).is_some() => "dis --literals",
-        "dot" if first_of(Sought::Option("--code"), words).is_some() => "dot --code",
-        _ => command,
+/// The plain word with this number, from 0, of those after a command that names a file: a word that is neither an option nor the
+/// value of one, or is after `--`.
+pub fn plain_at<'a, S: AsStr>(words: &'a [S], number: u64) -> Option<&'a str> {
+    let (mut is_value, mut is_ended, mut count) = (false, false, 0u64);
+    for word in words {
+        let word = word.as_str();
+        let is_option = word.starts_with('-') && !is(word, "-");
+        let is_plain = is_ended || !is_value && !is_option;
+        if is_plain && count == number {
+            return Some(word);
+        }
+        count = count.saturating_add(u64::from(is_plain));
+        is_value = !is_plain && !is_value && waits(word);
+        is_ended = is_ended || is(word, "--");
     }
+    None
 }
 
 /// Whether this request is of a command that runs the graph that it reads.
@@ -73,19 +76,17 @@ pub fn runs_graph(request: &Request) -> bool {
 
 /// What is wrong with the words after a command, which alone is this request.
 fn after_command<'a, S: AsStr>(request: &Request, command: &'a str, words: &'a [S]) -> Found<'a> {
-    let (sought, cause) = match request {
-        Request::Exec { .. } => (Sought::Negative, "negative-input"),
-        _ => (Sought::File, "file"),
+    let (word, cause) = match request {
+        Request::Exec { .. } => (first_of(Sought::Negative, words), "negative-input"),
+        _ if runs_graph(request) => (first_of(Sought::Negative, words), "negative-given"),
+        _ => (plain_at(words, 1), "one-word-more"),
     };
-    match first_of(sought, words) {
+    match word {
         None => {
             let cause = found("options/", command);
             nowhere(cause.unwrap_or("no-options"), [command; 2])
         }
-        Some(word) if runs_graph(request) && literal(word.as_bytes()).is_some() => {
-            nowhere("no-inputs", [command, word])
-        }
-        Some(word) => nowhere(cause, [reading(command, words), word]),
+        Some(word) => nowhere(cause, [command, word]),
     }
 }
 
@@ -107,7 +108,6 @@ fn no_command(word: &str) -> Found<'_> {
         "help" => ("help", ""),
         _ if word.starts_with('-') => ("no-command", ""),
         _ if word.ends_with(".etsobject") => ("file", "dis"),
-        _ if word.ends_with(".df") => ("file", "lower"),
         _ if word.contains('.') || word.contains('/') => ("file", "run"),
         _ => ("commands", ""),
     };

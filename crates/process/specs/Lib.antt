@@ -1,3 +1,4 @@
 pub mod Hinted
 pub mod HintSent
 pub mod Process
+pub mod Files

@@ -1,13 +1,19 @@
 //! The answer on standard output, and its outcome.
 
-ghost use Rattle.std.specs.Prelude.{◌≡◌, [], IfSome, Ok, drop, map};
+ghost use Rattle.std.specs.Prelude.{◌≡◌, ℕ, [], List, IfSome, MatchResult, Ok, Option, Result, drop, map};
+ghost use Rattle.std.specs.declared.io.Error.{Error};
+ghost use Rattle.outcomes.specs.declared.outcome.Outcome.{Outcome as Ended};
 ghost use Rattle.std.specs.Io.Buffered.{writer_buffer, writer_contents, writer_inner};
 ghost use Rattle.std.specs.Io.KnownBytes.{Keeps};
-ghost use Rattle.process.specs.Process.{Answers};
+ghost use Rattle.commands.specs.Answered.{Answers as Prints};
+ghost use Rattle.commands.specs.Served.{Refuses};
+ghost use Rattle.process.specs.Process.{Answers, Flushes};
 
+use command_line::Request;
+use commands::filed::answer_input;
 use commands::serving::serve_words;
 use driver::resources::Resources;
-use outcomes::Outcome;
+use outcomes::{Outcome, Refusal};
 use rounds::Open;
 use std::alloc::{Allocator, Global};
 use std::convert::AsStr;
@@ -41,5 +47,19 @@ pub fn answer<S: AsStr, I: Read, W: Write + Drop, R: Threads + Wait + Sync>(
 {
     let global = resources.alloc;
     let served = serve_words(words, reader, writer, resources, global);
+    flushed(writer, served)
+}
+
+/// Prints what is asked for of this input, or the refusal, and writes out all that the buffer holds. Gives the outcome, where no
+/// write failed.
+pub fn answer_read<W: Write + Drop, R: Threads + Wait + Sync>(
+    request: &Request,
+    input: &Result<Vec<u8>, Refusal>,
+    writer: &mut BufWriter<W>,
+    resources: Resources<'_, Global, R, Open>,
+) -> Option<Outcome>
+    ensures { AnswersInput request.now input.now (writer_contents W.contents writer.old) (W.contents (writer_inner writer.new)) result }
+{
+    let served = answer_input(request, input, writer, resources);
     flushed(writer, served)
 }

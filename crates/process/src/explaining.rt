@@ -4,7 +4,7 @@ ghost use Rattle.std.specs.Prelude.{◌≡◌, IfOk, ℕ, List, Option, drop, ma
 ghost use Rattle.outcomes.specs.declared.outcome.Outcome as Outcomes;
 ghost use Rattle.process.specs.Hinted.{accounts_by_hint, text_of};
 
-use hints::{Hint, explain};
+use hints::{Hint, explain, explain_program};
 use outcomes::Outcome;
 use std::alloc::{AllocError, Allocator};
 use std::convert::AsStr;
@@ -15,12 +15,14 @@ pub trait Explain {
     /// outcome, where no write failed.
     ghost accounts: { List (List ℕ) → Option (List ℕ) → Option Outcomes.Outcome → Option (List ℕ) → Type 0 };
 
-    /// The explanation of a run for a person. `words` are the words of the command line, the program's name first. `input` is
-    /// what was read, if that was stored. `outcome` is that of the words; `None` where a write failed.
+    /// The explanation of a run for a person. `words` are the words of the command line, the program's name first. `program` is the
+    /// text of the program that the graph of the input was made of, if there is one. `input` is what was read, if that was stored.
+    /// `outcome` is that of the words; `None` where a write failed.
     fn explain<S: AsStr, A: Allocator + Clone>(
         &self,
         alloc: A,
         words: &[S],
+        program: Option<&[u8]>,
         input: Option<&[u8]>,
         outcome: Option<Outcome>,
     ) -> Result<Option<Hint<A>>, AllocError>
@@ -37,9 +39,13 @@ impl Explain for Hints {
         &self,
         alloc: A,
         words: &[S],
+        program: Option<&[u8]>,
         input: Option<&[u8]>,
         outcome: Option<Outcome>,
     ) -> Result<Option<Hint<A>>, AllocError> {
-        explain(alloc, words, input, outcome)
+        match program {
+            Some(text) => explain_program(alloc, words, text, input, outcome),
+            None => explain(alloc, words, input, outcome),
+        }
     }
 }

@@ -4,6 +4,8 @@
 
 mod answering;
 mod explaining;
+mod filed;
+mod folder;
 mod sending;
 
 ghost use Rattle.std.specs.Prelude.{◌≡◌, IfOk, MatchResult, drop, map};
@@ -17,6 +19,8 @@ ghost use Rattle.process.specs.Hinted.{accounts_by_hint};
 use answering::answer;
 use driver::resources::Resources;
 pub use explaining::{Explain, Hints};
+pub use filed::{run_program, run_words};
+pub use folder::{Folder, SystemFiles};
 use keeping::{KeepingReader, Start};
 use outcomes::Outcome;
 use rounds::Open;
@@ -32,7 +36,7 @@ use std::thread::Threads;
 /// What a process leaves.
 #[derive(Drop)]
 pub struct Ended<I, W> {
-    /// The outcome of the words. `None` where a write failed.
+    /// The outcome of the words. `None` where a write failed, or where the file that they name could not be read.
     pub outcome: Option<Outcome>,
     /// The exit status.
     pub status: u8,
@@ -86,7 +90,7 @@ fn run_from<
     let outcome = answer(words, &mut reader, &mut writer, resources);
     let (writer, _unwritten) = writer.into_parts();
     let input = reader.kept();
-    let hint_sent = send_hint(explainer, alloc, words, input, outcome, errors);
+    let hint_sent = send_hint(explainer, alloc, words, None, input, outcome, errors);
     Ok(Ended {
         outcome,
         status: exit_status(outcome),

@@ -22,11 +22,13 @@ pub enum HintSent {
     Unknown,
 }
 
-/// Writes what explains a run with these words, this input, if that was stored, and this outcome.
+/// Writes what explains a run with these words, of the graph of this program, if there is one, with this input, if that was stored, and
+/// with this outcome.
 pub fn send_hint<X: Explain, S: AsStr, E: Write>(
     explainer: &X,
     alloc: Global,
     words: &[S],
+    program: Option<&[u8]>,
     input: Option<&[u8]>,
     outcome: Option<Outcome>,
     errors: &mut E,
@@ -34,7 +36,7 @@ pub fn send_hint<X: Explain, S: AsStr, E: Write>(
     ensures { Speaks (X.accounts (map S.text (drop 1 words.now)) (option_map (λ i. i.now) input.entry) outcome) (E.contents errors.old)
         (E.contents errors.new) result }
 {
-    match explainer.explain(alloc, words, input, outcome) {
+    match explainer.explain(alloc, words, program, input, outcome) {
         Ok(Some(hint)) => match hint.write(errors) {
             Ok(()) => HintSent::Hint,
             Err(_fault) => HintSent::Beginning,

@@ -1,8 +1,8 @@
 use Rattle.std.proofs.Common.{◌≡◌, ◌<◌, ℕ, List, [], length, take, subst, rules}
 use Rattle.std.proofs.lemmas.List.{append-nil}
 use Rattle.std.specs.Io.KnownBytes.{Consumes}
-use Rattle.commands.proofs.InputLines.{consumes_more, all_read}
-use Rattle.commands.proofs.input.read_input.Goals as goal
+use Rattle.files.proofs.Reading.{consumes_more, all_read}
+use Rattle.files.proofs.bytes.read_bytes.Goals as goal
 
 pub returns-then-count-eq0-clause-all : goal.returns-then-count-eq0-clause-all
 returns-then-count-eq0-clause-all g c =

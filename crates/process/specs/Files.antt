@@ -1,0 +1,80 @@
+-- What a process writes, and its exit status, where its words name a file.
+use Rattle.std.specs.Prelude.{◌≡◌, ◌≤◌, ◌⊎◌, ℕ, Bool, true, false, List, [], ◌∷◌, length, Option, Some, None, Result, IfSome, ⊤, codes}
+use Rattle.std.specs.Str.{bytes_eq}
+use Rattle.std.specs.declared.io.Error.{Error}
+use Rattle.command_line.specs.Files.{command_word}
+use Rattle.command_line.specs.declared.Command.{Command}
+use Rattle.command_line.specs.declared.given.FileRequest.{FileRequest}
+use Rattle.command_line.specs.declared.given.Given.{Given}
+use Rattle.sink.specs.Sends.{Sends}
+use Rattle.files.specs.Files.{unread_line}
+use Rattle.files.specs.declared.unread.Unread.{Unread}
+use Rattle.outcomes.specs.declared.outcome.Outcome.{Outcome}
+use Rattle.commands.specs.Filed.{AnswersFile, IsInputOf}
+use Rattle.process.specs.declared.sending.HintSent.{HintSent}
+use Rattle.process.specs.HintSent.{Account, Speaks}
+use Rattle.process.specs.Process.{Ends, Flushes, exits}
+
+-- THE FILE: whether the file of a name has these bytes, as far as that is known. The file `-` is standard input, which had `remaining`.
+abbrev pub Folder : Type 1
+Folder = List ℕ → List ℕ → Type 0
+
+abbrev pub HasIf : Folder → Option (List ℕ) → List ℕ → List ℕ → Bool → Type 0
+HasIf has remaining name bytes true = IfSome remaining (λ xs. bytes ≡ xs)
+HasIf has remaining name bytes false = has name bytes
+
+abbrev pub Has : Folder → Option (List ℕ) → List ℕ → List ℕ → Type 0
+Has has remaining name bytes = HasIf has remaining name bytes (bytes_eq name (codes "-"))
+
+-- What is printed of this input, or the refusal, and whether it was written out.
+abbrev pub AnswersInput : {A : Type 0} → Request → Result (Vec ℕ A) Refusal → Option (List ℕ) → Option (List ℕ) → Option Outcome → Type 0
+AnswersInput request input old new outcome =
+    (all : Option (List ℕ)) × (served : Result Outcome Error)
+    × MatchResult input (λ v. Prints served old all v.items request) (Refuses served old all) × Flushes all new served outcome
+
+-- STANDARD OUTPUT held `old`, and holds `new`: what it held before, followed by what is printed of the file with these bytes.
+abbrev pub AnswersRead : List ℕ → FileRequest → Option (List ℕ) → Option (List ℕ) → Option Outcome → Type 0
+AnswersRead bytes file old new outcome =
+    (all : Option (List ℕ)) × (served : Result Outcome Error) × AnswersFile served old all bytes file.request file.inputs × Flushes all new served outcome
+
+-- STANDARD ERROR: the explanation of a run is of the words, of what the command read of the file, or where that is nothing of the file, and of the outcome.
+abbrev pub ExplainsRead : Account → List (List ℕ) → List ℕ → FileRequest → Option Outcome → Option (List ℕ) → Type 0
+ExplainsRead accounts words bytes file outcome text =
+    (input : List ℕ) × ((input ≡ bytes) ⊎ IsInputOf file.request file.inputs bytes input) × accounts words (Some input) outcome text
+
+-- THE PROCESS over the bytes of a file. `old` and `new` are what standard output holds before and after, and `silent` and `spoken` what standard error holds.
+pub record EndsOver (accounts : Account) (words : List (List ℕ)) (file : FileRequest) (bytes : List ℕ) (old new silent spoken : Option (List ℕ))
+    (outcome : Option Outcome) (status : ℕ) (hint_sent : HintSent) : Type 0 where
+  pub answers : AnswersRead bytes file old new outcome
+  pub exit : status ≡ exits outcome
+  pub explains : Speaks (ExplainsRead accounts words bytes file outcome) silent spoken hint_sent
+
+-- THE PROCESS, where the file was read
+pub record EndsRead (accounts : Account) (has : Folder) (words : List (List ℕ)) (file : FileRequest) (remaining old new silent spoken : Option (List ℕ))
+    (outcome : Option Outcome) (status : ℕ) (hint_sent : HintSent) : Type 0 where
+  pub bytes : List ℕ
+  pub has : Has has remaining file.name bytes
+  pub few : length bytes ≤ 67108864
+  pub over : EndsOver accounts words file bytes old new silent spoken outcome status hint_sent
+
+-- It cannot be read: standard error has a line that names it and says why, or a beginning of that line, and nothing is on standard output.
+pub record EndsUnread (file : FileRequest) (old new silent spoken : Option (List ℕ)) (outcome : Option Outcome) (status : ℕ) : Type 0 where
+  pub unread : Unread
+  pub sent : Result ⊤ Error
+  pub told : Sends sent silent spoken (unread_line file.name unread)
+  pub nothing : new ≡ old
+  pub unserved : outcome ≡ None
+  pub exit : status ≡ 1
+
+-- ALL WORDS: those that name no file are served as ever; those that ask for help too are served as `help` and the command
+abbrev pub help_words : Command → List (List ℕ)
+help_words c = codes "help" ∷ command_word c ∷ []
+
+abbrev pub EndsGiven : Account → Folder → List (List ℕ) → Option (List ℕ) → Option (List ℕ) → Option (List ℕ) → Option (List ℕ) → Option (List ℕ)
+    → Option (List ℕ) → Option Outcome → ℕ → HintSent → Given → Type 0
+EndsGiven accounts has words remaining left old new silent spoken outcome status hint_sent Given.Words =
+    Ends accounts words remaining left old new silent spoken outcome status hint_sent
+EndsGiven accounts has words remaining left old new silent spoken outcome status hint_sent (Given.Help command) =
+    Ends accounts (help_words command) remaining left old new silent spoken outcome status hint_sent
+EndsGiven accounts has words remaining left old new silent spoken outcome status hint_sent (Given.File file) =
+    EndsRead accounts has words file remaining old new silent spoken outcome status hint_sent ⊎ EndsUnread file old new silent spoken outcome status
