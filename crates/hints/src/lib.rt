@@ -17,6 +17,7 @@ mod line_list;
 mod lines;
 mod listings;
 mod message;
+mod more_faults;
 mod objects;
 mod programs;
 mod readers;
@@ -33,6 +34,7 @@ pub use line::{Hint, Line};
 use lines::{line_at, split_graph, text_of, word_at};
 use listings::listing_fault;
 use message::{Found, Special, nowhere};
+use more_faults::{MoreFaults, more_faults};
 use objects::object_fault;
 use oracle::CallCounts;
 use outcomes::{Ending, Outcome, Refusal};
@@ -276,13 +278,28 @@ fn enough_frames<'a, A: Allocator + Clone>(
     }))
 }
 
-/// The line that shows this cause. Of a file it says what it would say of standard input.
+/// The first faults of other functions, where this input was refused for a fault of its program.
+fn more_of<A: Allocator + Clone>(
+    alloc: &A,
+    input: Option<&[u8]>,
+    outcome: Option<Outcome>,
+) -> Result<MoreFaults, AllocError> {
+    match (outcome, input) {
+        (Some(Outcome::Refused(Refusal::Program(refusal))), Some(text)) => {
+            more_faults(alloc, text, refusal)
+        }
+        _ => Ok(MoreFaults::none()),
+    }
+}
+
+/// The line that shows this cause, and more faults after it. Of a file it says what it would say of standard input.
 fn line_of<A: Allocator + Clone>(
     alloc: A,
     found: &Found<'_>,
+    more: MoreFaults,
     is_file: bool,
 ) -> Result<Line<A>, AllocError> {
-    let text = format!(in alloc.clone()?; "{found}")?;
+    let text = format!(in alloc.clone()?; "{found}{more}")?;
     match text.as_str().strip_prefix("standard input is ") {
         Some(rest) if is_file => {
             let text = format!(in alloc.clone()?; "the file is {rest}")?;
@@ -340,10 +357,16 @@ fn explained<'a, S: AsStr, A: Allocator + Clone>(
     let found = enough_frames(alloc.clone()?, &found, program, input)?.unwrap_or(found);
     let is_file = name_file(words);
     let place = match found.place {
-        Some(cause) => Some(line_of(alloc.clone()?, &Found { cause, ..found }, is_file)?),
+        Some(cause) => Some(line_of(
+            alloc.clone()?,
+            &Found { cause, ..found },
+            MoreFaults::none(),
+            is_file,
+        )?),
         None => None,
     };
-    let cause = line_of(alloc, &found, is_file)?;
+    let more = more_of(&alloc, input, outcome)?;
+    let cause = line_of(alloc, &found, more, is_file)?;
     Ok(Some(Hint { place, cause }))
 }
 
