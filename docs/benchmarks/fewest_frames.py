@@ -1,16 +1,16 @@
 #!/usr/bin/env python3
 """Prints the fewest frames with which programs come to rest, as a table: with the oldest tokens, and by depth.
 
-usage: docs/benchmarks/fewest_frames.py ETS [ELEMENTS..]
+usage: docs/benchmarks/fewest_frames.py ETS [ELEMENTS..] [--mode MODE] [--depth]
 
-ETS is the program. For each number of elements (1 if none is given) it tries runs in the mode `one`, by bisection, and gives the frames of all elements
-together; `-` is more than 1,024 for each element. On several elements that is a number with which a run comes to rest where one fewer does not; there may be
+ETS is the program. For each number of elements (1 if none is given) it tries runs in the mode, `one` if none is given, by bisection, and gives the frames of all
+elements together, with `--depth` by depth alone; `-` is more than 1,024 for each element. On several elements that is a number with which a run comes to rest where one fewer does not; there may be
 a smaller one.
 """
+import argparse
 import os
 import re
 import subprocess
-import sys
 
 EXAMPLES = os.path.join(os.path.dirname(os.path.abspath(__file__)), "..", "..", "examples")
 FIBONACCI = "fn main(n) { if n < 2 { n } else { main(n - 1) + main(n - 2) } }"
@@ -68,41 +68,46 @@ def programs():
     yield "`mergesort.df` of 256", example("mergesort.df"), [256]
 
 
-def comes_to_rest(ets, graph, take, elements, frames):
+def comes_to_rest(ets, graph, mode, take, elements, frames):
     """Whether the run ends at rest, and no reader waits."""
-    words = ["run", "--steps", "4294967296", "--take", take, "--elements", str(elements), "--frames", str(frames)]
+    words = ["run", "--steps", "4294967296", "--mode", mode, "--take", take, "--elements", str(elements), "--frames", str(frames)]
     ran = subprocess.run([ets, *words], input=graph, stdout=subprocess.PIPE, stderr=subprocess.DEVNULL)
     lines = ran.stdout.split(b"\n")
     return ran.returncode == 0 and b"deferred 0" in lines and b"end Rest" in lines
 
 
-def fewest(ets, graph, take, elements):
+def fewest(ets, graph, mode, take, elements):
     """The fewest frames of all elements together, as text."""
     least, most = 1, 1024
-    if not comes_to_rest(ets, graph, take, elements, most):
+    if not comes_to_rest(ets, graph, mode, take, elements, most):
         return "-"
     while least < most:
         half = (least + most) // 2
-        if comes_to_rest(ets, graph, take, elements, half):
+        if comes_to_rest(ets, graph, mode, take, elements, half):
             most = half
         else:
             least = half + 1
     return f"{least * elements:,}"
 
 
-def main(ets, *numbers):
-    numbers = [int(it) for it in numbers] or [1]
-    heads = [f"{take}, {number}" if len(numbers) > 1 else take for number in numbers for take in ("By depth", "Oldest")]
+def main():
+    parser = argparse.ArgumentParser(usage=__doc__)
+    parser.add_argument("ets")
+    parser.add_argument("elements", type=int, nargs="*", default=[1])
+    parser.add_argument("--mode", default="one")
+    parser.add_argument("--depth", action="store_true")
+    words = parser.parse_args()
+    ets, numbers = words.ets, words.elements
+    takes = {"depth": "By depth"} if words.depth else {"depth": "By depth", "oldest": "Oldest"}
+    heads = [f"{take}, {number}" if len(numbers) > 1 else take for number in numbers for take in takes.values()]
     print("| Program | " + " | ".join(heads) + " |")
     print("| --- |" + " --- |" * len(heads))
     for name, text, inputs in programs():
         program = text + "\ninputs\n" + "".join(f"{it}\n" for it in inputs)
         graph = subprocess.run([ets, "lower"], input=program.encode(), stdout=subprocess.PIPE, check=True).stdout
-        cells = [fewest(ets, graph, take, number) for number in numbers for take in ("depth", "oldest")]
+        cells = [fewest(ets, graph, words.mode, take, number) for number in numbers for take in takes]
         print(f"| {name} | " + " | ".join(cells) + " |", flush=True)
 
 
 if __name__ == "__main__":
-    if len(sys.argv) < 2:
-        sys.exit(__doc__)
-    main(*sys.argv[1:])
+    main()

@@ -18,7 +18,12 @@ const BY_DEPTH: Order = Order {
     take: "depth",
 };
 
-const ORDERS: [Order; 4] = [
+const ROUNDS_BY_DEPTH: Order = Order {
+    mode: "rounds",
+    take: "depth",
+};
+
+const ORDERS: [Order; 5] = [
     Order {
         mode: "one",
         take: "oldest",
@@ -28,6 +33,7 @@ const ORDERS: [Order; 4] = [
         mode: "rounds",
         take: "oldest",
     },
+    ROUNDS_BY_DEPTH,
     Order {
         mode: "free",
         take: "oldest",
@@ -48,7 +54,7 @@ impl Orders {
     fn list(self) -> &'static [Order] {
         match self {
             Orders::All => &ORDERS,
-            Orders::ByDepth => &[BY_DEPTH],
+            Orders::ByDepth => &[BY_DEPTH, ROUNDS_BY_DEPTH],
         }
     }
 
