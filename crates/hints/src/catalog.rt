@@ -28,6 +28,7 @@ input-line: line $a of the inputs is `$p`
 input-kinds: inputs are integers, one a line, and no empty lines
 return-in-inputs: lines end with CR LF here, and with LF alone in inputs: `tr -d '\r'` takes the CRs out
 graph-inputs: block $1 has $b input$B, and the lines after the graph have $a integer$A
+file-inputs: block $1 has $b input$B, and none follows the name of the file, as 7 does in `ets run FILE 7`; in the file there are $a
 given-inputs: block $1 has $b input$B, and the command line has $a integer$A
 object-inputs: code block $c, which is run, has $b input$B, and the command line has $a integer$A
 many-inputs: the command line has more than 16 inputs, and no block takes more than 16

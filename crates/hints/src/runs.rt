@@ -105,18 +105,18 @@ pub fn given_fault<'a, S: AsStr>(words: &'a [S], number: u64, has_file: bool) ->
     ))
 }
 
-/// The cause for a run of this graph that was given another number of inputs than main has. `is_given` says whether they are those of
-/// the command line.
-fn inputs_fault(input: &[u8], is_given: bool) -> Option<Found<'_>> {
+/// The cause for a run of this graph that was given another number of inputs than main has: those of the command line, or those after the graph.
+fn inputs_fault<'a>(case: &Case<'_, 'a>, input: &'a [u8]) -> Option<Found<'a>> {
     let (text, lines) = split_graph(input);
     let name = text_at(line_at(text, last_line(text)), 1);
     let wants = Block::of(text, Some(name), 0)?.inputs;
     let has = lines.split(is_line_feed).filter(is_full).count() as u64;
     let numbers = [has, wants, 0, 0, 0, 0];
-    let cause = match is_given {
-        true if has > MOST_INPUTS => "many-inputs",
-        true => "given-inputs",
-        false => "graph-inputs",
+    let cause = match case.inputs {
+        Some(_) if !case.has_given() => "file-inputs",
+        Some(_) if has > MOST_INPUTS => "many-inputs",
+        Some(_) => "given-inputs",
+        None => "graph-inputs",
     };
     Some(Found::of(None, cause, [name; 2], [b""; 3], numbers))
 }
@@ -210,7 +210,7 @@ pub fn start_fault<'a>(case: &Case<'_, 'a>, fault: StartFault) -> Option<Found<'
     if let Request::Exec { inputs, .. } = case.request {
         return object_inputs_fault(input, inputs);
     }
-    inputs_fault(input, case.has_given())
+    inputs_fault(case, input)
 }
 
 /// The most frames of an element, and of all elements.
