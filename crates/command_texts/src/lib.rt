@@ -9,7 +9,7 @@
 use clap::builder::ValueParser;
 use clap::error::{Error, ErrorKind};
 use clap::{Arg, ArgAction, Command, value_parser};
-use command_line::Topic;
+use command_line::{Given, Request, Take, Topic, read_given};
 use std::alloc::{AllocError, Global};
 use std::convert::AsStr;
 
@@ -22,23 +22,28 @@ const FORMATS: [&str; 3] = ["text", "chrome", "html"];
 /// The end of the program's help.
 const AFTER: &str = "\
 Examples, in a clone of the project:
-  ets lower < examples/factorial.df | ets run     lowers a program to a graph, and runs that on the program's inputs
-  ets run < examples/add.ets                      runs a graph on the inputs after it
-  ets run --elements 16 < examples/fibonacci.ets  runs it on 16 processing elements
-  ets mean < examples/add.ets                     runs its meaning, without code
-  sed '/^main /q' examples/add.ets > add          leaves the inputs out, for the commands that read a graph alone:
-  ets check < add                                 says whether the graph is good
-  ets compile < add > object                      makes its code
-  ets dot < add | dot -Tsvg > add.svg             draws it
-  ets dis < object                                lists the code
-  ets dot --code < object | dot -Tsvg > code.svg  draws the code
-  ets upgrade < object > object2                  makes version 2 of it
-  ets exec 2 3 < object                           runs the object on the inputs 2 and 3
-  ets dis < object > listing                      keeps the listing, to be changed by hand
-  ets asm < listing > object                      makes an object of a listing
-  ets trace --last 20 < examples/factorial.ets    prints the last 20 events of a run
-  ets profile < examples/fibonacci.ets            measures how much parallelism there is
-  ets orders < examples/fibonacci.ets             runs a graph in 100 random orders
+  ets run examples/factorial.df 20                runs a program on the input 20
+  ets run examples/add.ets                        runs a graph on the inputs after it
+  ets run --elements 16 examples/fibonacci.df 10  runs it on 16 processing elements
+  ets mean examples/add.ets 2 3                   runs its meaning, without code
+  ets check examples/fibonacci.df                 says whether its graph is good
+  ets compile examples/fibonacci.df > object      makes its code
+  ets exec object 10                              runs the object on the input 10
+  ets dis object                                  lists the code
+  ets dot examples/fibonacci.df | dot -Tsvg > fibonacci.svg  draws the graph
+  ets dot --code object | dot -Tsvg > code.svg    draws the code
+  ets upgrade object > object2                    makes version 2 of it
+  ets dis object > listing                        keeps the listing, to be changed by hand
+  ets asm listing > object                        makes an object of a listing
+  ets trace --last 20 examples/factorial.df 5     prints the last 20 events of a run
+  ets profile examples/fibonacci.df 15            measures how much parallelism there is
+  ets orders examples/fibonacci.df 5              runs a program in 100 random orders
+  ets lower examples/factorial.df                 lowers a program to a graph, with the program's inputs
+  ets lower < examples/factorial.df | ets run     the same run, without names: each command reads standard input
+
+A file that is named has a program, a graph or an object, as its first bytes show; `-` is standard input. The words after it are
+inputs, in place of those in the file. With a file a run has 1024 frames for each element and 4294967296 steps, and takes
+tokens by depth, where nothing else is said; without one it has the defaults that the help on each command shows.
 
 The language of programs: docs/LANGUAGE.md. Graphs, inputs, reports, objects and all refusals: docs/FORMATS.md.
 Programs and graphs to try: examples/README.md.
@@ -50,67 +55,132 @@ After a refusal, a mistake, a failed write, and a report or a profile that does 
 
 /// The end of the help of `ets lower`.
 const AFTER_LOWER: &str = "\
-Examples: ets lower < examples/factorial.df | ets run
-          ets lower < examples/factorial.df | sed '/^main /q' | ets check
-          ets lower --map < examples/factorial.df
+Examples: ets lower examples/factorial.df
+          ets lower --map examples/factorial.df
+          ets lower < examples/factorial.df | ets run
 The language, with its refusals: docs/LANGUAGE.md. What is printed: docs/FORMATS.md, \"Lowering: `ets lower`\".";
 
 /// The end of the help of `ets run`.
 const AFTER_RUN: &str = "\
-Examples: ets run --elements 4 --frames 64 < examples/factorial.ets
-          ets run --elements 4 --frames enough < examples/factorial.ets
+Examples: ets run examples/factorial.df 20
+          ets run --elements 4 --frames enough examples/factorial.df 20
+          ets run --elements 4 --frames 64 < examples/factorial.ets
 The report, the ends of a run and their exit statuses: docs/FORMATS.md, \"Report of `ets run`\".";
 
 const AFTER_MEAN: &str = "\
-Example: ets mean --steps 5000 < examples/factorial.ets
+Examples: ets mean examples/factorial.df 20
+          ets mean --steps 5000 < examples/factorial.ets
 What it prints: docs/FORMATS.md, \"`ets mean`\".";
 
 const AFTER_CHECK: &str = "\
-Example: sed '/^main /q' examples/add.ets | ets check
+Examples: ets check examples/factorial.df
+          sed '/^main /q' examples/add.ets | ets check
 It prints `ok`, status 0, or a refusal, status 1: docs/FORMATS.md, \"Graph text\".";
 
 const AFTER_COMPILE: &str = "\
-Example: sed '/^main /q' examples/add.ets | ets compile > object
+Examples: ets compile examples/factorial.df > object
+          sed '/^main /q' examples/add.ets | ets compile > object
 The object file: docs/FORMATS.md, \"Object file\".";
 
 const AFTER_DIS: &str = "\
-Examples: ets dis < examples/add.etsobject
+Examples: ets dis examples/add.etsobject
           ets dis --literals < object | ets asm > again
 The listing: docs/FORMATS.md, \"Listing of `ets dis`\".";
 
 const AFTER_UPGRADE: &str = "\
-Example: ets upgrade < examples/add.etsobject > object2
+Example: ets upgrade examples/add.etsobject > object2
 The versions of the object file: docs/FORMATS.md, \"Object file\".";
 
 const AFTER_DOT: &str = "\
-Examples: sed '/^main /q' examples/add.ets | ets dot | dot -Tsvg > add.svg
-          ets dot --code < examples/add.etsobject | dot -Tsvg > code.svg
+Examples: ets dot examples/factorial.df | dot -Tsvg > factorial.svg
+          sed '/^main /q' examples/add.ets | ets dot | dot -Tsvg > add.svg
+          ets dot --code examples/add.etsobject | dot -Tsvg > code.svg
 What is drawn: docs/FORMATS.md, \"Pictures: `ets dot`\".";
 
 const AFTER_EXEC: &str = "\
-Examples: ets exec 2 3 < examples/add.etsobject
-          ets exec --elements 4 -- -7 3 < examples/add.etsobject
+Examples: ets exec examples/add.etsobject 2 3
+          ets exec --elements 4 examples/add.etsobject -- -7 3
+          ets exec 2 3 < examples/add.etsobject
+A first word that is an integer is an input; a file that has such a name is ./NAME.
 What it prints, and its exit statuses: docs/FORMATS.md, \"`ets exec`\".";
 
 const AFTER_ASM: &str = "\
-Example: ets dis < examples/add.etsobject | ets asm > object
+Examples: ets asm listing > object
+          ets dis < examples/add.etsobject | ets asm > object
 How a listing is written: docs/FORMATS.md, \"Assembling: `ets asm`\".";
 
 const AFTER_TRACE: &str = "\
-Examples: ets trace < examples/add.ets
-          ets trace --elements 4 --format chrome < examples/fibonacci.ets > trace.json
+Examples: ets trace examples/factorial.df 5
+          ets trace --elements 4 --format chrome examples/fibonacci.df 8 > trace.json
           ets trace --format html < examples/factorial.ets > run.html
 The lines, the JSON, which Perfetto and browsers' tracing pages open, and the page: docs/FORMATS.md, \"Trace\".";
 
 const AFTER_PROFILE: &str = "\
-Examples: ets profile < examples/fibonacci.ets
+Examples: ets profile examples/fibonacci.df 15
           ets profile --svg < examples/fibonacci.ets > fibonacci.svg
 What is measured: docs/FORMATS.md, \"Profile\".";
 
 const AFTER_ORDERS: &str = "\
-Example: ets orders --elements 3 --count 1000 --seed 7 < examples/fibonacci.ets
+Examples: ets orders examples/fibonacci.df 5
+          ets orders --elements 3 --count 1000 --seed 7 < examples/fibonacci.ets
 It prints `orders N same` and the report that all orders have, or the first order with another report than order 1 has,
 status 1: docs/FORMATS.md, \"Orders\".";
+
+/// What is said of a run where the words do not say it.
+#[derive(Clone, Copy)]
+struct Defaults {
+    frames: &'static str,
+    steps: &'static str,
+    take: &'static str,
+}
+
+/// The defaults for standard input.
+const USUAL: Defaults = Defaults {
+    frames: "256",
+    steps: "1000000",
+    take: "oldest",
+};
+
+/// The defaults for the file that the words name, if they name one.
+fn defaults_of<S: AsStr>(words: &[S]) -> Defaults {
+    let Given::File(file) = read_given(words.get(1..).unwrap_or(words)) else {
+        return USUAL;
+    };
+    let take = match file.request {
+        Request::Run(options) | Request::RunEnough(options) => options.take,
+        Request::Exec { options, .. } | Request::Trace { options, .. } => options.take,
+        _ => Some(Take::Depth),
+    };
+    Defaults {
+        frames: "1024",
+        steps: "4294967296",
+        take: match take {
+            Some(Take::Oldest) => "oldest",
+            Some(Take::Depth) | None => "depth",
+        },
+    }
+}
+
+/// The file that has what the command reads.
+fn file<'a>(alloc: Global, help: &'a str) -> Arg<'a> {
+    Arg::new(alloc, "FILE").help(help)
+}
+
+/// The file of a command that runs a graph, and the inputs after it.
+fn with_file_and_inputs<'a>(
+    alloc: Global,
+    command: Command<'a>,
+) -> Result<Command<'a>, AllocError> {
+    let inputs = Arg::new(alloc, "INPUT").num_args(0usize..).help(
+        "an integer for each input, in place of those in FILE; `--` goes before a negative one",
+    );
+    command
+        .arg(file(
+            alloc,
+            "a file with a program or a graph; - for standard input",
+        ))?
+        .arg(inputs)
+}
 
 fn number<'a>(alloc: Global, name: &'a str, default: &'a str, help: &'a str) -> Arg<'a> {
     Arg::new(alloc, name)
@@ -125,17 +195,22 @@ fn elements<'a>(alloc: Global) -> Arg<'a> {
     number(alloc, "elements", "1", "processing elements, 1 to 16")
 }
 
-fn frames<'a>(alloc: Global) -> Arg<'a> {
-    number(alloc, "frames", "256", "frames for each element, 1 to 1024")
+fn frames<'a>(alloc: Global, defaults: Defaults) -> Arg<'a> {
+    number(
+        alloc,
+        "frames",
+        defaults.frames,
+        "frames for each element, 1 to 1024; with FILE 1024 if it is not given",
+    )
 }
 
 /// The frames of `run`. Any text is a value of them where `enough` is.
-fn frames_or_enough<'a>(alloc: Global, enough: bool) -> Arg<'a> {
+fn frames_or_enough<'a>(alloc: Global, defaults: Defaults, enough: bool) -> Arg<'a> {
     let frames = number(
         alloc,
         "frames",
-        "256",
-        "frames for each element, 1 to 1024; enough: as many as suffice in every order",
+        defaults.frames,
+        "frames for each element, 1 to 1024, with FILE 1024 if it is not given; enough: as many as suffice in every order",
     );
     if enough {
         frames.value_parser(ValueParser::String)
@@ -144,22 +219,22 @@ fn frames_or_enough<'a>(alloc: Global, enough: bool) -> Arg<'a> {
     }
 }
 
-fn steps<'a>(alloc: Global) -> Arg<'a> {
+fn steps<'a>(alloc: Global, defaults: Defaults) -> Arg<'a> {
     number(
         alloc,
         "steps",
-        "1000000",
-        "steps that each element may make",
+        defaults.steps,
+        "steps that each element may make; with FILE 4294967296 if it is not given",
     )
 }
 
-fn take<'a>(alloc: Global) -> Arg<'a> {
+fn take<'a>(alloc: Global, defaults: Defaults) -> Arg<'a> {
     Arg::new(alloc, "take")
         .long("take")
         .value_name("ORDER")
-        .default_value("oldest")
+        .default_value(defaults.take)
         .help(
-            "oldest: an element takes its oldest token; depth: the same, but requests for frames wait until few other tokens are left, which takes few frames",
+            "oldest: an element takes its oldest token; depth: the same, but requests for frames wait until few other tokens are left, which takes few frames, and with FILE is the default but for --mode free",
         )
 }
 
@@ -168,6 +243,7 @@ fn with_run_options<'a>(
     alloc: Global,
     command: Command<'a>,
     frames: Arg<'a>,
+    defaults: Defaults,
 ) -> Result<Command<'a>, AllocError> {
     let mode = Arg::new(alloc, "mode")
         .long("mode")
@@ -186,10 +262,10 @@ fn with_run_options<'a>(
     command
         .arg(elements(alloc))?
         .arg(frames)?
-        .arg(steps(alloc))?
+        .arg(steps(alloc, defaults))?
         .arg(mode)?
         .arg(turn)?
-        .arg(take(alloc))
+        .arg(take(alloc, defaults))
 }
 
 fn lower_command<'a>(alloc: Global) -> Result<Command<'a>, AllocError> {
@@ -199,37 +275,57 @@ fn lower_command<'a>(alloc: Global) -> Result<Command<'a>, AllocError> {
         .help("in place of the graph, the place in the program of each of its nodes");
     Command::new(alloc, "lower")
         .about(
-            "Lowers a program to a graph: its text on standard input, then a line `inputs` and its inputs, one a line",
+            "Lowers the program of FILE or on standard input to a graph: its text, then a line `inputs` and its inputs, one a line",
         )
         .after_help(AFTER_LOWER)
-        .arg(map)
+        .arg(map)?
+        .arg(file(alloc, "a file with a program; - for standard input"))
 }
 
-fn run_command<'a>(alloc: Global, enough: bool) -> Result<Command<'a>, AllocError> {
+fn run_command<'a>(
+    alloc: Global,
+    defaults: Defaults,
+    enough: bool,
+) -> Result<Command<'a>, AllocError> {
     let command = Command::new(alloc, "run")
-        .about("Compiles and runs a graph: its text on standard input, then its inputs, one a line")
+        .about(
+            "Compiles and runs a program or a graph of FILE, or a graph on standard input, followed by its inputs, one a line",
+        )
         .after_help(AFTER_RUN);
-    with_run_options(alloc, command, frames_or_enough(alloc, enough))
+    let command = with_file_and_inputs(alloc, command)?;
+    let frames = frames_or_enough(alloc, defaults, enough);
+    with_run_options(alloc, command, frames, defaults)
 }
 
-fn exec_command<'a>(alloc: Global) -> Result<Command<'a>, AllocError> {
+fn exec_command<'a>(alloc: Global, defaults: Defaults) -> Result<Command<'a>, AllocError> {
     let inputs = Arg::new(alloc, "INPUT").num_args(0usize..).help(
         "an integer for each input of the main block; `--` goes before a negative one",
     );
     let command = Command::new(alloc, "exec")
-        .about("Runs the object on standard input, on these inputs")
+        .about("Runs the object of FILE or on standard input, on these inputs")
         .after_help(AFTER_EXEC)
+        .arg(file(
+            alloc,
+            "a file with an object, whose name is no integer; - for standard input",
+        ))?
         .arg(inputs)?;
-    with_run_options(alloc, command, frames(alloc))
+    with_run_options(alloc, command, frames(alloc, defaults), defaults)
 }
 
-fn mean_command<'a>(alloc: Global) -> Result<Command<'a>, AllocError> {
-    Command::new(alloc, "mean")
+fn mean_command<'a>(alloc: Global, defaults: Defaults) -> Result<Command<'a>, AllocError> {
+    let steps = number(
+        alloc,
+        "steps",
+        defaults.steps,
+        "activities at most; with FILE 4294967296 if it is not given",
+    );
+    let command = Command::new(alloc, "mean")
         .about(
-            "Runs the meaning of a graph, without code: its text on standard input, then its inputs",
+            "Runs the meaning of a program or a graph of FILE, or of a graph on standard input, without code",
         )
         .after_help(AFTER_MEAN)
-        .arg(number(alloc, "steps", "1000000", "activities at most"))
+        .arg(steps)?;
+    with_file_and_inputs(alloc, command)
 }
 
 fn dis_command<'a>(alloc: Global) -> Result<Command<'a>, AllocError> {
@@ -238,23 +334,30 @@ fn dis_command<'a>(alloc: Global) -> Result<Command<'a>, AllocError> {
         .action(ArgAction::SetTrue)
         .help("the object's table of literals, too");
     Command::new(alloc, "dis")
-        .about("Lists the code of the object on standard input")
+        .about("Lists the code of the object of FILE or on standard input")
         .after_help(AFTER_DIS)
-        .arg(literals)
+        .arg(literals)?
+        .arg(file(alloc, "a file with an object; - for standard input"))
 }
 
 fn dot_command<'a>(alloc: Global) -> Result<Command<'a>, AllocError> {
     let code = Arg::new(alloc, "code")
         .long("code")
         .action(ArgAction::SetTrue)
-        .help("the code of the object on standard input");
+        .help("the code of the object");
     Command::new(alloc, "dot")
-        .about("Draws the graph on standard input, as text for Graphviz")
+        .about(
+            "Draws the graph of a program or a graph of FILE, or the graph on standard input, as text for Graphviz",
+        )
         .after_help(AFTER_DOT)
-        .arg(code)
+        .arg(code)?
+        .arg(file(
+            alloc,
+            "a file with a program or a graph, or with --code an object; - for standard input",
+        ))
 }
 
-fn trace_command<'a>(alloc: Global) -> Result<Command<'a>, AllocError> {
+fn trace_command<'a>(alloc: Global, defaults: Defaults) -> Result<Command<'a>, AllocError> {
     let last = Arg::new(alloc, "last")
         .long("last")
         .value_name("N")
@@ -269,14 +372,17 @@ fn trace_command<'a>(alloc: Global) -> Result<Command<'a>, AllocError> {
             "text: a line for each event, then the report; chrome: Trace Event JSON; html: a page that shows the run",
         );
     let command = Command::new(alloc, "trace")
-        .about("Runs a graph and prints its events: its text on standard input, then its inputs")
+        .about(
+            "Runs a program or a graph of FILE, or a graph on standard input, followed by its inputs, and prints the events",
+        )
         .after_help(AFTER_TRACE)
         .arg(last)?
         .arg(format)?;
-    with_run_options(alloc, command, frames(alloc))
+    let command = with_file_and_inputs(alloc, command)?;
+    with_run_options(alloc, command, frames(alloc, defaults), defaults)
 }
 
-fn profile_command<'a>(alloc: Global) -> Result<Command<'a>, AllocError> {
+fn profile_command<'a>(alloc: Global, defaults: Defaults) -> Result<Command<'a>, AllocError> {
     let sizes = Arg::new(alloc, "elements")
         .long("elements")
         .value_name("N,..")
@@ -289,28 +395,32 @@ fn profile_command<'a>(alloc: Global) -> Result<Command<'a>, AllocError> {
         .long("svg")
         .action(ArgAction::SetTrue)
         .help("a picture in place of lines");
-    Command::new(alloc, "profile")
-        .about("Measures the parallelism of a graph: its text on standard input, then its inputs")
+    let command = Command::new(alloc, "profile")
+        .about(
+            "Measures the parallelism of a program or a graph of FILE, or of a graph on standard input, followed by its inputs",
+        )
         .after_help(AFTER_PROFILE)
         .arg(sizes)?
-        .arg(frames(alloc))?
-        .arg(steps(alloc))?
-        .arg(take(alloc))?
-        .arg(svg)
+        .arg(frames(alloc, defaults))?
+        .arg(steps(alloc, defaults))?
+        .arg(take(alloc, defaults))?
+        .arg(svg)?;
+    with_file_and_inputs(alloc, command)
 }
 
-fn orders_command<'a>(alloc: Global) -> Result<Command<'a>, AllocError> {
-    Command::new(alloc, "orders")
+fn orders_command<'a>(alloc: Global, defaults: Defaults) -> Result<Command<'a>, AllocError> {
+    let command = Command::new(alloc, "orders")
         .about(
-            "Runs a graph in random orders of its tokens: its text on standard input, then its inputs",
+            "Runs a program or a graph of FILE, or a graph on standard input, followed by its inputs, in random orders of the tokens",
         )
         .after_help(AFTER_ORDERS)
         .arg(elements(alloc))?
-        .arg(frames(alloc))?
-        .arg(steps(alloc))?
-        .arg(take(alloc))?
+        .arg(frames(alloc, defaults))?
+        .arg(steps(alloc, defaults))?
+        .arg(take(alloc, defaults))?
         .arg(number(alloc, "count", "100", "how many orders"))?
-        .arg(number(alloc, "seed", "1", "which orders"))
+        .arg(number(alloc, "seed", "1", "which orders"))?;
+    with_file_and_inputs(alloc, command)
 }
 
 /// Whether these words give `--frames` the value `enough`.
@@ -331,18 +441,26 @@ pub fn program_command<'a, S: AsStr>(
     alloc: Global,
     words: &[S],
 ) -> Result<Command<'a>, AllocError> {
+    let defaults = defaults_of(words);
+    let source = "a file with a program or a graph; - for standard input";
     let check = Command::new(alloc, "check")
-        .about("Says whether standard input has a good graph")
-        .after_help(AFTER_CHECK);
+        .about("Says whether a program of FILE, or a graph of FILE or on standard input, is good")
+        .after_help(AFTER_CHECK)
+        .arg(file(alloc, source))?;
     let compile = Command::new(alloc, "compile")
-        .about("Writes the object of the graph on standard input")
-        .after_help(AFTER_COMPILE);
+        .about(
+            "Writes the object of a program or a graph of FILE, or of the graph on standard input",
+        )
+        .after_help(AFTER_COMPILE)
+        .arg(file(alloc, source))?;
     let upgrade = Command::new(alloc, "upgrade")
-        .about("Writes the object on standard input as version 2 of the object file")
-        .after_help(AFTER_UPGRADE);
+        .about("Writes the object of FILE or on standard input as version 2 of the object file")
+        .after_help(AFTER_UPGRADE)
+        .arg(file(alloc, "a file with an object; - for standard input"))?;
     let asm = Command::new(alloc, "asm")
-        .about("Writes the object of the listing on standard input")
-        .after_help(AFTER_ASM);
+        .about("Writes the object of the listing of FILE or on standard input")
+        .after_help(AFTER_ASM)
+        .arg(file(alloc, "a file with a listing; - for standard input"))?;
     Command::new(alloc, "ets")
         .about(
             "Compiles dataflow programs and graphs for an explicit token store machine and runs them",
@@ -357,12 +475,12 @@ pub fn program_command<'a, S: AsStr>(
         .subcommand(asm)?
         .subcommand(upgrade)?
         .subcommand(dot_command(alloc)?)?
-        .subcommand(exec_command(alloc)?)?
-        .subcommand(mean_command(alloc)?)?
-        .subcommand(run_command(alloc, has_enough(words))?)?
-        .subcommand(trace_command(alloc)?)?
-        .subcommand(profile_command(alloc)?)?
-        .subcommand(orders_command(alloc)?)
+        .subcommand(exec_command(alloc, defaults)?)?
+        .subcommand(mean_command(alloc, defaults)?)?
+        .subcommand(run_command(alloc, defaults, has_enough(words))?)?
+        .subcommand(trace_command(alloc, defaults)?)?
+        .subcommand(profile_command(alloc, defaults)?)?
+        .subcommand(orders_command(alloc, defaults)?)
 }
 
 /// What `clap` gives instead of a reading of the words, if it has none.

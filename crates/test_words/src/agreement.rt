@@ -3,11 +3,11 @@
 use clap::ArgMatches;
 use clap::error::ErrorKind;
 use command_line::{
-    Asked, EventFormat, Format, Inputs, Literals, Lowering, Mode, Request, RunOptions, Sizes, Take,
-    read_words, version_line,
+    Asked, EventFormat, FileRequest, Format, Given, Inputs, Literals, Lowering, Mode, Request,
+    RunOptions, Sizes, Take, Topic, read_given, read_words, version_line,
 };
 use command_texts::{help_text, mistake_text, program_command};
-use std::alloc::Global;
+use std::alloc::{AllocError, Global};
 use std::fmt;
 
 /// How many lists of words ask for each thing.
@@ -239,16 +239,40 @@ fn are_inputs(inputs: &Inputs, words: &[&str]) -> bool {
     }
 }
 
-/// Whether `clap` reads this request.
-fn is_read(request: &Request, matches: &ArgMatches<'_>) -> bool {
+/// The words that `clap` reads as inputs of an object where no file is named: its first word is that of the file there.
+fn input_words<'a>(alloc: Global, exec: &'a ArgMatches<'a>) -> Result<Vec<&'a str>, AllocError> {
+    let mut words = Vec::new(alloc);
+    if let Some(first) = exec.get_str("FILE") {
+        words.push(first)?;
+    }
+    for word in exec.get_strs("INPUT").unwrap_or(&[]) {
+        words.push(*word)?;
+    }
+    Ok(words)
+}
+
+/// Whether `clap` reads this file and these inputs after it.
+fn is_file_read(file: &FileRequest<'_>, matches: &ArgMatches<'_>) -> bool {
+    let Some((_command, of_command)) = matches.subcommand() else {
+        return false;
+    };
+    let words = of_command.get_strs("INPUT").unwrap_or(&[]);
+    let inputs = match &file.request {
+        Request::Exec { inputs, .. } => inputs,
+        _ => &file.inputs,
+    };
+    of_command.get_str("FILE") == Some(file.name.text)
+        && are_inputs(inputs, words)
+        && is_request_read(&file.request, matches)
+}
+
+/// Whether `clap` reads this request, but for its inputs.
+fn is_request_read(request: &Request, matches: &ArgMatches<'_>) -> bool {
     match (request, matches.subcommand()) {
-        (Request::Exec { options, inputs }, Some(("exec", exec))) => {
-            let words = exec.get_strs("INPUT").unwrap_or(&[]);
-            match options_in(exec) {
-                Some(other) => are_same(options, &other) && are_inputs(inputs, words),
-                None => false,
-            }
-        }
+        (Request::Exec { options, .. }, Some(("exec", exec))) => match options_in(exec) {
+            Some(other) => are_same(options, &other),
+            None => false,
+        },
         (
             Request::Profile {
                 options,
@@ -261,6 +285,21 @@ fn is_read(request: &Request, matches: &ArgMatches<'_>) -> bool {
             Some(other) => is_same(request, &other),
             None => false,
         },
+    }
+}
+
+/// Whether `clap` reads this request, where no file is named.
+fn is_read(alloc: Global, request: &Request, matches: &ArgMatches<'_>) -> bool {
+    match (request, matches.subcommand()) {
+        (Request::Exec { options, inputs }, Some(("exec", exec))) => {
+            match (options_in(exec), input_words(alloc, exec)) {
+                (Some(other), Ok(words)) => {
+                    are_same(options, &other) && are_inputs(inputs, words.as_slice())
+                }
+                _ => false,
+            }
+        }
+        _ => is_request_read(request, matches),
     }
 }
 
@@ -318,11 +357,17 @@ fn agreed_if(agrees: bool, agreed: Agreed) -> Agreed {
 /// What both readings say of the words, the first of which is the program's name. For help, the version and a mistake the texts
 /// have to agree too.
 pub fn agree_on(alloc: Global, words: &[&str]) -> anyhow::Result<Agreed> {
-    let asked = read_words(words.get(1..).unwrap_or(&[]));
+    let rest = words.get(1..).unwrap_or(&[]);
+    let given = read_given(rest);
+    let asked = match &given {
+        Given::Help(command) => Asked::Help(Topic::Of(*command)),
+        _ => read_words(rest),
+    };
     let error = match program_command(alloc, words)?.try_get_matches_from(words) {
         Ok(matches) => {
-            let agrees = match &asked {
-                Asked::Request(request) => is_read(request, &matches),
+            let agrees = match (&given, &asked) {
+                (Given::File(file), _) => is_file_read(file, &matches),
+                (_, Asked::Request(request)) => is_read(alloc, request, &matches),
                 _ => false,
             };
             return Ok(agreed_if(agrees, Agreed::Request));
