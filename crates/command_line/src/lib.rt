@@ -355,5 +355,5 @@ pub fn read_words<S: AsStr>(words: &[S]) -> Asked
 pub fn version_line() -> &'static [u8]
     ensures { result.now ≡ version_line }
 {
-    b"ets 0.3.3 (rattle-kit-13f)\n"
+    b"ets 0.3.4 (rattle-kit-13f)\n"
 }
