@@ -32,14 +32,20 @@ fn cause_of(kind: FaultKind) -> Text {
     }
 }
 
+/// What went wrong, and the cells of the array of which it is said, where that is known to have so many.
+fn cause_in(kind: FaultKind, cells: Option<u64>) -> (Text, u64) {
+    match (kind, cells) {
+        (FaultKind::Range, Some(cells)) => ("fault-range-of", cells),
+        _ => (cause_of(kind), 0),
+    }
+}
+
 /// What went wrong at this node of the graph.
 fn found_at<'a>(graph: &'a [u8], kind: FaultKind, node: Node) -> Found<'a> {
     let name = name_at(graph, node).unwrap_or("");
-    let (cause, cells) = match (kind, cells_of(graph, name)) {
-        (FaultKind::Range, Some(cells)) => ("fault-range-of", cells),
-        _ => (cause_of(kind), 0),
-    };
-    Found::of(None, cause, ["", name], [b""; 3], [0, 0, cells, 0, 0, 0])
+    let (cause, cells) = cause_in(kind, cells_of(graph, name));
+    let numbers = [0, 0, cells, 0, 0, 0];
+    Found::of(None, cause, [name; 2], [b""; 3], numbers)
 }
 
 /// What is said of a fault that was made at this node, where what was run is not known.
@@ -47,6 +53,20 @@ fn elsewhere<'a>(kind: FaultKind, node: Node) -> Found<'a> {
     let place = "node $e of block number $f of the graph made the fault";
     let numbers = [0, 0, 0, 0, node.node, node.block];
     Found::of(Some(place), cause_of(kind), [""; 2], [b""; 3], numbers)
+}
+
+/// What is said of a fault that was made at this node, at its place, where what was run is known.
+fn placed<'a>(source: Option<Source<'_, 'a>>, kind: FaultKind, node: Node) -> Option<Found<'a>> {
+    let source = source?;
+    source.at(found_at(source.graph, kind, node), node)
+}
+
+/// What was found, or else what is said where what was run is not known.
+fn placed_or_elsewhere<'a>(found: Option<Found<'a>>, kind: FaultKind, node: Node) -> Found<'a> {
+    match found {
+        Some(found) => found,
+        None => elsewhere(kind, node),
+    }
 }
 
 /// What is said of this fault in a run of what this source says.
@@ -62,13 +82,5 @@ pub fn found_fault<'a>(source: Option<Source<'_, 'a>>, fault: MadeFault) -> Foun
         block: u64::from(block),
         node: u64::from(node.get()),
     };
-    match source {
-        Some(source) => {
-            let found = found_at(source.graph, fault.kind, node);
-            source
-                .at(found, node)
-                .unwrap_or(elsewhere(fault.kind, node))
-        }
-        None => elsewhere(fault.kind, node),
-    }
+    placed_or_elsewhere(placed(source, fault.kind, node), fault.kind, node)
 }

@@ -8,6 +8,7 @@ use crate::message::{Found, window};
 use crate::programs::token_at;
 use lowered_text::fault::LowerFault;
 use lowered_text::programs::{make, read_good};
+use lowering::Named;
 use source_tokens::{position, split};
 use std::alloc::{AllocError, Allocator};
 
@@ -69,10 +70,7 @@ impl<'r, 'a> Program<'r, 'a> {
     }
 
     /// What was found, at the token that the node is made for.
-    fn at<'f>(&self, found: Found<'f>, node: Node) -> Option<Found<'f>>
-    where
-        'a: 'f,
-    {
+    fn at(&self, found: Found<'a>, node: Node) -> Option<Found<'a>> {
         let at = self.place_of(node)?;
         let place = position(self.text, at);
         let (number, column) = (place.line as u64, place.column as u64);
@@ -94,24 +92,18 @@ impl<'r, 'a> Program<'r, 'a> {
 
 impl<'r, 'a> Source<'r, 'a> {
     /// What was found, at the line of the node in the graph.
-    fn in_graph<'f>(&self, found: Found<'f>, node: Node) -> Option<Found<'f>>
-    where
-        'a: 'f,
-    {
+    fn in_graph(&self, found: Found<'a>, node: Node) -> Option<Found<'a>> {
         let block = Block::of(self.graph, None, node.block)?;
         let number = block.line.saturating_add(1).saturating_add(node.node);
         let number = number.saturating_sub(block.inputs);
         let line = line_at(self.graph, number);
         let text = "node $e of block $1, line $f, is `$s`";
         let words = [block.name, found.words[1]];
-        Some(found.placed(text, words, [line, line], [node.node, number]))
+        Some(found.placed(text, words, [line; 2], [node.node, number]))
     }
 
     /// What was found, at the place of the node: in the program, where that is known, or else in the graph.
-    pub fn at<'f>(&self, found: Found<'f>, node: Node) -> Option<Found<'f>>
-    where
-        'a: 'f,
-    {
+    pub fn at(&self, found: Found<'a>, node: Node) -> Option<Found<'a>> {
         match self.program {
             Some(program) => program.at(found, node),
             None => self.in_graph(found, node),
@@ -169,18 +161,14 @@ pub fn program_of(text: &[u8]) -> &[u8] {
     split(text).program
 }
 
-/// The places of the nodes of the program in this text. There are none where it has no graph.
-pub fn places_of<A: Allocator + Clone>(
+/// The places of the nodes of this program.
+fn nodes_of<A: Allocator + Clone>(
     alloc: &A,
-    text: &[u8],
+    named: Named<'_, A>,
+    program: &[u8],
 ) -> Result<Vec<NodePlace, A>, AllocError> {
     let mut nodes = Vec::new(alloc.clone()?);
-    let (named, parts) = match read_good(alloc, text) {
-        Ok(good) => good,
-        Err(LowerFault::Memory) => return Err(AllocError),
-        Err(LowerFault::Program(_refusal)) => return Ok(nodes),
-    };
-    let made = match make(alloc, parts.program, &named) {
+    let made = match make(alloc, program, &named) {
         Ok(made) => made,
         Err(LowerFault::Memory) => return Err(AllocError),
         Err(LowerFault::Program(_refusal)) => return Ok(nodes),
@@ -197,4 +185,16 @@ pub fn places_of<A: Allocator + Clone>(
         }
     }
     Ok(nodes)
+}
+
+/// The places of the nodes of the program in this text. There are none where it has no graph.
+pub fn places_of<A: Allocator + Clone>(
+    alloc: &A,
+    text: &[u8],
+) -> Result<Vec<NodePlace, A>, AllocError> {
+    match read_good(alloc, text) {
+        Ok((named, parts)) => nodes_of(alloc, named, parts.program),
+        Err(LowerFault::Memory) => Err(AllocError),
+        Err(LowerFault::Program(_refusal)) => Ok(Vec::new(alloc.clone()?)),
+    }
 }

@@ -1,5 +1,5 @@
 -- Exit statuses, each a function of a command's outcome.
-use Rattle.std.specs.Prelude.{ℕ, List, [], ◌∷◌, Option, Some, None}
+use Rattle.std.specs.Prelude.{ℕ, List, [], ◌∷◌, if◌then◌else◌, is_some, Option, Some, None}
 use Rattle.tags.specs.declared.value.Value.{Value}
 use Rattle.semantics.specs.Report.{Report}
 use Rattle.semantics.specs.declared.report.End.{End}
@@ -51,13 +51,13 @@ fault_in (Some (Value.Int z)) = None
 fault_in (Some (Value.Fault kind origin)) = Some (record { kind = kind; origin = origin })
 
 -- the fault of the first of these outputs, or of these cells, that has one
-unfoldable pub first_fault : List (Option Value) → Option MadeFault
+abbrev pub first_fault : List (Option Value) → Option MadeFault
 first_fault [] = None
-first_fault (output ∷ rest) = or_else (fault_in output) (first_fault rest)
+first_fault (output ∷ rest) = if is_some (fault_in output) then fault_in output else first_fault rest
 
-unfoldable pub first_cell_fault : List (ℕ × Value) → Option MadeFault
+abbrev pub first_cell_fault : List (ℕ × Value) → Option MadeFault
 first_cell_fault [] = None
-first_cell_fault (cell ∷ rest) = or_else (fault_in (Some cell.1)) (first_cell_fault rest)
+first_cell_fault (cell ∷ rest) = if is_some (fault_in (Some cell.1)) then fault_in (Some cell.1) else first_cell_fault rest
 
 abbrev pub fault_of : Report → Option MadeFault
 fault_of r = or_else (first_fault r.outputs) (first_cell_fault r.cells)
