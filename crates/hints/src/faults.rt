@@ -42,7 +42,7 @@ fn cause_in(kind: FaultKind, cells: Option<u64>) -> (Text, u64) {
 
 /// What went wrong at this node of the graph.
 fn found_at<'a>(graph: &'a [u8], kind: FaultKind, node: Node) -> Found<'a> {
-    let name = name_at(graph, node).unwrap_or("");
+    let name = name_at(graph, node);
     let (cause, cells) = cause_in(kind, cells_of(graph, name));
     let numbers = [0, 0, cells, 0, 0, 0];
     Found::of(None, cause, [name; 2], [b""; 3], numbers)

@@ -149,11 +149,18 @@ impl<'r, 'a> Source<'r, 'a> {
     }
 }
 
-/// The words of a node line: its kind, and the name after that.
-pub fn name_at<'a>(graph: &'a [u8], node: Node) -> Option<&'a str> {
-    let block = Block::of(graph, None, node.block)?;
+/// The number of the line of a node; 0 where there is no such block.
+fn number_of(graph: &[u8], node: Node) -> u64 {
+    let Some(block) = Block::of(graph, None, node.block) else {
+        return 0;
+    };
     let number = block.line.saturating_add(1).saturating_add(node.node);
-    Some(text_at(line_at(graph, number.saturating_sub(block.inputs)), 2))
+    number.saturating_sub(block.inputs)
+}
+
+/// The name after the kind of a node, in its line; empty where there is none.
+pub fn name_at(graph: &[u8], node: Node) -> &str {
+    text_at(line_at(graph, number_of(graph, node)), 2)
 }
 
 /// The text of the program in this text.
