@@ -12,4 +12,4 @@ pub mod Answered
 pub mod Assembled
 pub mod Lowered
 pub mod Piped
-pub mod Filed
+pub mod FileInputs

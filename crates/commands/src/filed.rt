@@ -8,7 +8,7 @@ ghost use Rattle.files.specs.declared.content.Reads.{Reads};
 ghost use Rattle.outcomes.specs.declared.refusal.Refusal.{Refusal};
 ghost use Rattle.commands.specs.Served.{Refuses};
 ghost use Rattle.commands.specs.Answered.{Answers};
-ghost use Rattle.commands.specs.Filed.{IsInputOf, IsLowered, IsNoInput, IsNoInputOf, IsOfGraph, IsOfProgram, followed, graph_part};
+ghost use Rattle.commands.specs.FileInputs.{IsInputOf, IsLowered, IsNoInput, IsNoInputOf, IsOfGraph, IsOfProgram, followed, graph_part};
 
 use crate::input::split_at_main;
 use crate::refusal::lower_refusal;

@@ -10,7 +10,7 @@ use Rattle.sink.specs.Sends.{Sends}
 use Rattle.files.specs.Files.{unread_line}
 use Rattle.files.specs.declared.unread.Unread.{Unread}
 use Rattle.outcomes.specs.declared.outcome.Outcome.{Outcome}
-use Rattle.commands.specs.Filed.{AnswersFile, IsInputOf}
+use Rattle.commands.specs.FileInputs.{AnswersFile, IsInputOf}
 use Rattle.process.specs.declared.sending.HintSent.{HintSent}
 use Rattle.process.specs.HintSent.{Account, Speaks}
 use Rattle.process.specs.Process.{Ends, Flushes, exits}

@@ -12,7 +12,7 @@
 //! > end Rest
 //! ```
 //!
-//! - `$ COMMANDS` begins a session: `ets` and its words, with ` < FILE` where it reads a file of `data`, and with ` | ` before a
+//! - `$ COMMANDS` begins a session: `ets` and its words, which may name a file of `data`, with ` < FILE` where it reads one, and with ` | ` before a
 //!   command that reads what the one before it printed. `$` alone stands for a command line without any word. Where more such
 //!   lines follow at once, all of them read the same input, and should print the same.
 //! - `| LINE` is a line of the input. The lines of the input follow the file, if there is one.

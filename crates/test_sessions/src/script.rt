@@ -5,6 +5,7 @@ use crate::tally::Tally;
 use anyhow::{Context, bail};
 use std::fs;
 use std::io::Write;
+use std::rt::Files;
 use std::sync::Wait;
 use std::thread::Threads;
 
@@ -34,7 +35,7 @@ fn commands_of(line: &str) -> Option<&str> {
 }
 
 /// Plays the sessions of a file with this name and this text.
-pub fn play<R: Threads + Wait + Sync, W: Write>(
+pub fn play<R: Files + Threads + Wait + Sync, W: Write>(
     rt: &R,
     files: &HostRuntime,
     out: &mut W,

@@ -1,12 +1,18 @@
 //! One session.
 
 use crate::tally::Tally;
-use std::alloc::{AllocError, Global};
+use driver::resources::Resources;
+use hints::Hint;
+use outcomes::Outcome;
+use process::{Ended, Explain, SystemFiles, run_words};
+use rounds::Open;
+use std::alloc::{AllocError, Allocator, Global};
+use std::convert::AsStr;
 use std::io::{self, Write};
+use std::rt::Files;
 use std::sync::Wait;
 use std::thread::Threads;
 use test_inputs::pieces::{append, append_repeated, changed, overwrite};
-use test_served::answer;
 
 /// A session, up to the line that was read last.
 #[derive(Drop)]
@@ -51,22 +57,66 @@ fn words_of<'a>(alloc: Global, command: &'a str) -> Result<Vec<&'a str>, AllocEr
     Ok(words)
 }
 
+/// Explains nothing: a session has what is on standard output.
+struct Silent;
+
+impl Explain for Silent {
+    ghost use Rattle.std.specs.Prelude.{⊤};
+
+    ghost accounts = { λ words input outcome text. ⊤ };
+
+    fn explain<S: AsStr, A: Allocator + Clone>(
+        &self,
+        _alloc: A,
+        _words: &[S],
+        _input: Option<&[u8]>,
+        _outcome: Option<Outcome>,
+    ) -> Result<Option<Hint<A>>, AllocError> {
+        Ok(None)
+    }
+}
+
+/// Runs the command of these words, which reads this input, and the file that they name.
+fn run<'a, R: Files + Threads + Wait + Sync>(
+    rt: &R,
+    alloc: Global,
+    words: &[&str],
+    input: &'a [u8],
+) -> io::Result<Ended<&'a [u8], Vec<u8>>> {
+    let mut errors = Vec::new(alloc);
+    let folder = SystemFiles { rt };
+    let resources = Resources {
+        alloc,
+        rt,
+        gate: &Open,
+    };
+    run_words(
+        words,
+        input,
+        Vec::new(alloc),
+        &mut errors,
+        &Silent,
+        &folder,
+        resources,
+    )
+}
+
 /// Runs the commands, where the first one reads this input.
-fn run_commands<R: Threads + Wait + Sync>(
+fn run_commands<R: Files + Threads + Wait + Sync>(
     rt: &R,
     alloc: Global,
     commands: &str,
     input: &[u8],
-) -> Result<Ran, AllocError> {
+) -> io::Result<Ran> {
     let mut ran = Ran {
         text: Vec::from_slice(alloc, input)?,
         statuses: Vec::new(alloc),
     };
     for command in commands.split(" | ") {
         let words = words_of(alloc, command)?;
-        let outcome = answer(rt, alloc, &words, &ran.text);
-        ran.text = outcome.text;
-        ran.statuses.push(outcome.status)?;
+        let ended = run(rt, alloc, &words, &ran.text)?;
+        ran.text = ended.writer;
+        ran.statuses.push(ended.status)?;
     }
     Ok(ran)
 }
@@ -271,7 +321,7 @@ impl<'a> Session<'a> {
 
     /// Plays the session with these commands, once on each of its lengths of the input. Says whether all is as it should be, and
     /// reports the first time that it is not.
-    fn play_commands<R: Threads + Wait + Sync, W: Write>(
+    fn play_commands<R: Files + Threads + Wait + Sync, W: Write>(
         &self,
         rt: &R,
         out: &mut W,
@@ -294,7 +344,7 @@ impl<'a> Session<'a> {
     }
 
     /// Plays the session with each of its command lines, and counts them.
-    pub fn play<R: Threads + Wait + Sync, W: Write>(
+    pub fn play<R: Files + Threads + Wait + Sync, W: Write>(
         &self,
         rt: &R,
         out: &mut W,
