@@ -1,8 +1,9 @@
 //! One case: command lines with one input.
 
 use crate::given::outcome_of;
+use files::{Unread, read_bytes};
 use hints::explain;
-use process::run_process;
+use process::{Folder, run_program};
 use std::alloc::{AllocError, Global};
 use std::io::{self, Write};
 use std::str;
@@ -17,10 +18,28 @@ pub struct Case {
     /// The command lines, each with a line feed after it.
     lines: Vec<u8>,
     input: Vec<u8>,
+    /// What the file has that the words may name.
+    file: Vec<u8>,
     /// The bytes that the table gives in place of what the program writes.
     output: Vec<u8>,
     /// The outcome, as the table gives it. It is empty where the program is run.
     outcome: Vec<u8>,
+}
+
+/// The only file that there is, by whatever name.
+struct OneFile<'a> {
+    bytes: &'a [u8],
+}
+
+impl Folder for OneFile<'_> {
+    ghost use Rattle.std.specs.Prelude.{⊤};
+
+    ghost has = { λ name bytes. ⊤ };
+
+    fn read_file(&self, alloc: Global, _name: &str) -> Result<Vec<u8>, Unread> {
+        let mut reader = self.bytes;
+        read_bytes(alloc, &mut reader)
+    }
 }
 
 /// The words of a line.
@@ -52,6 +71,7 @@ impl Case {
             alloc,
             lines: Vec::new(alloc),
             input: Vec::new(alloc),
+            file: Vec::new(alloc),
             output: Vec::new(alloc),
             outcome: Vec::new(alloc),
         }
@@ -61,6 +81,7 @@ impl Case {
     pub fn begin(&mut self) {
         self.lines.clear();
         self.input.clear();
+        self.file.clear();
         self.output.clear();
         self.outcome.clear();
     }
@@ -77,6 +98,10 @@ impl Case {
             [b'|', piece @ ..] => {
                 append(&mut self.input, piece, 0)?;
                 self.input.push(b'\n')?;
+            }
+            [b'^', piece @ ..] => {
+                append(&mut self.file, piece, 0)?;
+                self.file.push(b'\n')?;
             }
             [b'!', piece @ ..] => append(&mut self.input, piece, 0)?,
             [b'*', repeated @ ..] => append_repeated(&mut self.input, repeated)?,
@@ -124,7 +149,8 @@ impl Case {
         let mut errors = Vec::new(self.alloc);
         let output = Vec::new(self.alloc);
         let input = self.input.as_slice();
-        let ended = run_process(&words, input, output, &mut errors, self.alloc, rt)?;
+        let folder = OneFile { bytes: &self.file };
+        let ended = run_program(&words, input, output, &mut errors, &folder, self.alloc, rt)?;
         self.show(&ended.writer, &errors, out)?;
         Ok(Some(ended.status))
     }

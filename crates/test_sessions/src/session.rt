@@ -69,6 +69,7 @@ impl Explain for Silent {
         &self,
         _alloc: A,
         _words: &[S],
+        _program: Option<&[u8]>,
         _input: Option<&[u8]>,
         _outcome: Option<Outcome>,
     ) -> Result<Option<Hint<A>>, AllocError> {
