@@ -12,3 +12,4 @@ mod IntegerLines
 pub mod PipedRuns
 mod Sufficing
 mod EnoughRuns
+pub mod FileInputs

@@ -1,15 +1,19 @@
 -- What a process writes, and its exit status, where its words name a file.
-use Rattle.std.specs.Prelude.{◌≡◌, ◌≤◌, ◌⊎◌, ℕ, Bool, true, false, List, [], ◌∷◌, length, Option, Some, None, Result, IfSome, ⊤, codes}
+use Rattle.std.specs.Prelude.{◌≡◌, ◌≤◌, ◌⊎◌, ℕ, Bool, true, false, List, [], ◌∷◌, length, Option, Some, None, Result, IfSome, MatchResult, Vec, ⊤, codes}
 use Rattle.std.specs.Str.{bytes_eq}
 use Rattle.std.specs.declared.io.Error.{Error}
 use Rattle.command_line.specs.Files.{command_word}
 use Rattle.command_line.specs.declared.Command.{Command}
+use Rattle.command_line.specs.declared.Request.{Request}
 use Rattle.command_line.specs.declared.given.FileRequest.{FileRequest}
 use Rattle.command_line.specs.declared.given.Given.{Given}
 use Rattle.sink.specs.Sends.{Sends}
 use Rattle.files.specs.Files.{unread_line}
 use Rattle.files.specs.declared.unread.Unread.{Unread}
 use Rattle.outcomes.specs.declared.outcome.Outcome.{Outcome}
+use Rattle.outcomes.specs.declared.refusal.Refusal.{Refusal}
+use Rattle.commands.specs.Answered.{Answers as Prints}
+use Rattle.commands.specs.Served.{Refuses}
 use Rattle.commands.specs.FileInputs.{AnswersFile, IsInputOf}
 use Rattle.process.specs.declared.sending.HintSent.{HintSent}
 use Rattle.process.specs.HintSent.{Account, Speaks}

@@ -1,13 +1,10 @@
 //! The answer on standard output, and its outcome.
 
-ghost use Rattle.std.specs.Prelude.{◌≡◌, ℕ, [], List, IfSome, MatchResult, Ok, Option, Result, drop, map};
-ghost use Rattle.std.specs.declared.io.Error.{Error};
-ghost use Rattle.outcomes.specs.declared.outcome.Outcome.{Outcome as Ended};
+ghost use Rattle.std.specs.Prelude.{◌≡◌, [], IfSome, Ok, drop, map};
 ghost use Rattle.std.specs.Io.Buffered.{writer_buffer, writer_contents, writer_inner};
 ghost use Rattle.std.specs.Io.KnownBytes.{Keeps};
-ghost use Rattle.commands.specs.Answered.{Answers as Prints};
-ghost use Rattle.commands.specs.Served.{Refuses};
-ghost use Rattle.process.specs.Process.{Answers, Flushes};
+ghost use Rattle.process.specs.Process.{Answers};
+ghost use Rattle.process.specs.Files.{AnswersInput};
 
 use command_line::Request;
 use commands::filed::answer_input;
