@@ -12,7 +12,7 @@ use source::token::{Sign, TokenKind};
 
 /// What a text that is not empty begins with.
 #[derive(Clone, Copy)]
-pub(crate) enum Beginning {
+pub enum Beginning {
     /// So many bytes that are no token.
     Skipped { len: usize },
     /// A token of so many bytes.
@@ -23,7 +23,7 @@ pub(crate) enum Beginning {
 
 impl Beginning {
     /// What the text begins with. None where it is empty.
-    pub(crate) fn of(text: &[u8]) -> Option<Beginning>
+    pub fn of(text: &[u8]) -> Option<Beginning>
         ensures { option_map said result ≡ opening text.now }
     {
         let (first, after) = text.split_first()?;

@@ -9,7 +9,9 @@ mod refusal;
 mod runs;
 mod signs;
 
+pub use beginning::Beginning;
 pub use lexing::{lex, name_at};
 pub use parting::{Parted, split};
 pub use placing::{LineColumn, Reached, first_place, position, reach};
 pub use refusal::{Detail, Expected, Form, Head, Opened, ProgramRefusal, Stop, Within};
+pub use runs::run_len;

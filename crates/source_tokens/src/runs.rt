@@ -28,7 +28,7 @@ pub(crate) fn is_run_byte(b: u8) -> bool
 }
 
 /// The length of the run that the text begins with.
-pub(crate) fn run_len(text: &[u8]) -> usize
+pub fn run_len(text: &[u8]) -> usize
     ensures { result ≡ length (take_while is_run_byte text.now) }
 {
     text.iter().take_while(|b| is_run_byte(**b)).count()
