@@ -1,1 +1,2 @@
 pub mod Automaton
+pub mod Law

@@ -1,7 +1,20 @@
 //! The symbols of the parser's stack.
 
-use surface::token::{Keyword, Sign};
+use source::token::Keyword;
+use surface::token::Sign;
 use surface::word::Word;
+
+/// A name that is one word of its own.
+#[derive(Clone, Copy)]
+pub enum NameWord {
+    Array,
+    Constant,
+    Function,
+    /// The counter of a `for`.
+    Counter,
+    /// A name of a loop, before its first value.
+    Start,
+}
 
 /// What is on the parser's stack: what must follow, what may follow, or a word that is appended then. `depth` is how
 /// many of the levels that a tree's depth counts are open around it. `level` is the level of the grammar that the whole must
@@ -19,14 +32,12 @@ pub enum Symbol<N> {
     Emit {
         word: Word<N>,
     },
+    Name {
+        word: NameWord,
+    },
 
     // Items.
     Items,
-    ArrayName,
-    /// Further lengths of an array, and the bracket after them.
-    LengthEnd,
-    ConstantName,
-    FunctionName,
     Parameter,
     /// What may follow the name of a parameter.
     AfterParameter {
@@ -39,9 +50,9 @@ pub enum Symbol<N> {
         name: N,
         rank: usize,
     },
-    /// Further parameters, and the bracket after them.
+    /// Further parameters.
     Parameters,
-    /// The number of results, where it is written, and the body.
+    /// The number of results, where it is written.
     Results,
     ResultCount,
     FunctionBody,
@@ -66,17 +77,9 @@ pub enum Symbol<N> {
         at: usize,
     },
     Target,
-    /// Further targets, and what follows them of the `let` and of the body.
-    Targets {
-        at: usize,
-        depth: u8,
-    },
-    /// Further values of the `let`, and what follows it of the body.
-    LetEnd {
-        at: usize,
-        depth: u8,
-    },
-    /// Further values of the step, and what follows it of the body.
+    /// Further targets.
+    Targets,
+    /// What follows the values of a step, and the body from there on.
     StepEnd {
         depth: u8,
     },
@@ -104,15 +107,8 @@ pub enum Symbol<N> {
         level: u8,
         depth: u8,
     },
-    /// Further indexes, and the bracket after them.
-    IndexEnd {
-        at: usize,
-        array: N,
-        level: u8,
-        depth: u8,
-    },
     /// What may follow the indexes of an array.
-    AfterIndex {
+    AfterIndexes {
         at: usize,
         array: N,
         level: u8,
@@ -122,11 +118,12 @@ pub enum Symbol<N> {
     Callee {
         depth: u8,
     },
-    /// Further arguments, and the bracket after them.
-    CallEnd {
-        at: usize,
-        strict: bool,
-        function: N,
+    /// Further parts of a list.
+    Further {
+        depth: u8,
+    },
+    /// Further indexes of a cell.
+    Indexes {
         depth: u8,
     },
     /// What follows `else`.
@@ -138,11 +135,7 @@ pub enum Symbol<N> {
         at: usize,
         depth: u8,
     },
-    /// A name with its first value.
-    Start {
-        depth: u8,
-    },
-    /// Further names of a loop, and what follows them.
+    /// Further names with their first values.
     Starts {
         depth: u8,
     },
@@ -162,17 +155,12 @@ pub enum Symbol<N> {
         name: N,
         depth: u8,
     },
-    Counter,
-    /// The first number, and all that follows it.
+    /// The word `in`, and all that follows it.
     Range {
         depth: u8,
     },
-    /// The names after `with`, if there are some, and the body.
+    /// The names after `with`, if there are some.
     Carried {
-        depth: u8,
-    },
-    /// Further names after `with`, and the body.
-    CarriedStarts {
         depth: u8,
     },
 }

@@ -13,7 +13,7 @@ use Rattle.surface.specs.Samples.{lets_inside, tests_text, tests, tests_under_te
 use Rattle.surface.specs.Samples.{table_text, table, cube_text, cube, built_in_text, built_in, of_pairs_text, of_pairs, own_min_text}
 use Rattle.surface.specs.Samples.{own_min, instances_text, instances, passed_on_text, passed_on, numbered_text, numbered, prefixes_text}
 use Rattle.surface.specs.Samples.{prefixes}
-use Rattle.surface_text.specs.Automaton.{parsed}
+use Rattle.law_surface_text.specs.Automaton.{parsed}
 
 abbrev parsed_then : List ℕ → Result (List Token) Fault → Result Words Fault
 parsed_then text (Ok ts) = parsed text ts
