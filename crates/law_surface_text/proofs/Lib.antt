@@ -1,1 +1,7 @@
 mod ReadSamples
+pub mod Meaning
+pub mod Givens
+pub mod Terminals
+pub mod ExplainOperands
+pub mod ExplainForms
+pub mod ExplainItems

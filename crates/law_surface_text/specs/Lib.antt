@@ -1,2 +1,3 @@
 pub mod Automaton
 pub mod Law
+pub mod Ready
