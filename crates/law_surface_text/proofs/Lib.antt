@@ -5,3 +5,5 @@ pub mod Terminals
 pub mod ExplainOperands
 pub mod ExplainForms
 pub mod ExplainItems
+pub mod Runs
+pub mod Sound
