@@ -273,7 +273,7 @@ module _ (limit : ℕ) where
       (λ h t ts. record { part = t ∷ ts; ends = refl; spelled = simp append-nil; says = simp append-nil })
   explains_targets at l = passes (record { part = []; ends = refl; spelled = refl; says = refl })
 
-  commas_are : (t : _) (ts : List _) → with_commas (map target_token (t ∷ ts)) ≡ target_token t ∷ after_commas (map (λ t. target_token t ∷ []) ts)
+  pub commas_are : (t : _) (ts : List _) → with_commas (map target_token (t ∷ ts)) ≡ target_token t ∷ after_commas (map (λ t. target_token t ∷ []) ts)
   commas_are t [] = refl
   commas_are t (u ∷ ts) = ap (λ v. target_token t ∷ a_sign core_sign.Comma ∷ v) (commas_are u ts)
 

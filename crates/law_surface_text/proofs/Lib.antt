@@ -7,3 +7,9 @@ pub mod ExplainForms
 pub mod ExplainItems
 pub mod Runs
 pub mod Sound
+pub mod Reading
+pub mod Followed
+pub mod ReadOperands
+pub mod ReadForms
+pub mod ReadBodies
+pub mod Complete
