@@ -13,3 +13,8 @@ pub mod ReadOperands
 pub mod ReadForms
 pub mod ReadBodies
 pub mod Complete
+pub mod Rebuilding
+pub mod Rebuilt
+pub mod Alike
+pub mod FirstFault
+pub mod Law
