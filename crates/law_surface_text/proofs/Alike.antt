@@ -264,13 +264,14 @@ same_advance limit (s ∷ S) (t ∷ T) b at to l e =
     (same_below b s t at to l head)
 
 -- MANY TOKENS
+abbrev pub stack_of : Result Moved CoreFaultKind → Stack
+stack_of (Ok m) = m.stack
+stack_of (Err kind) = []
+
 bared_moved : (r q : Result Moved CoreFaultKind) (f g : Stack → Result Moved CoreFaultKind) → bared r ≡ bared q
     → ((S T : Stack) → bares S ≡ bares T → bared (f S) ≡ bared (g T)) → bared (moved_by r f) ≡ bared (moved_by q g)
-bared_moved (Ok m) (Ok n) f g e h = let same : bares m.stack ≡ bares n.stack = moved_same m n e in
-    bared_after m.appended (f m.stack) ∙ h m.stack n.stack same ∙ sym (bared_after n.appended (g n.stack))
-  where
-    moved_same : (m n : Moved) → bared (Ok m) ≡ bared (Ok n) → bares m.stack ≡ bares n.stack
-    moved_same m n e = let k : Ok (record { appended = []; stack = bares m.stack }) ≡ Ok (record { appended = []; stack = bares n.stack }) = e in cc
+bared_moved (Ok m) (Ok n) f g e h =
+    bared_after m.appended (f m.stack) ∙ h m.stack n.stack (ap stack_of e) ∙ sym (bared_after n.appended (g n.stack))
 bared_moved (Err k) (Err j) f g e h = e
 bared_moved (Ok m) (Err j) f g e h = absurd cc
 bared_moved (Err k) (Ok n) f g e h = absurd cc

@@ -26,7 +26,7 @@ use Rattle.law_surface_text.proofs.Runs.{Spells, moved_by, advance_all, Ran, who
 use Rattle.law_surface_text.proofs.Sound.{Goes, said, said_lexemes, goes}
 use Rattle.law_surface_text.proofs.Reading.{reading, read_on}
 use Rattle.law_surface_text.proofs.Complete.{program_is_read}
-use Rattle.law_surface_text.proofs.Alike.{bares, bared, same_advance, same_advance_all, same_finish, wider, wider_all, Taken, taken}
+use Rattle.law_surface_text.proofs.Alike.{bares, bared, stack_of, same_advance, same_advance_all, same_finish, wider, wider_all, Taken, taken}
 
 abbrev becomes : Lexeme
 becomes = TheSign (sign.Core core_sign.Becomes)
@@ -132,9 +132,7 @@ read_all limit S (p ∷ ps) ws e = go (λ T vs f. read_all limit T ps vs f) (adv
 
 -- AFTER WHAT WAS READ
 stacks_alike : (m n : Moved) (r q : Result Moved CoreFaultKind) → r ≡ Ok m → q ≡ Ok n → bared r ≡ bared q → bares m.stack ≡ bares n.stack
-stacks_alike m n r q e f h =
-    let k : Ok (record { appended = []; stack = bares m.stack }) ≡ Ok (record { appended = []; stack = bares n.stack }) =
-    ap bared (sym e) ∙ h ∙ ap bared f in cc
+stacks_alike m n r q e f h = ap stack_of (ap bared (sym e) ∙ h ∙ ap bared f)
 
 ok_too : (n : Moved) (r q : Result Moved CoreFaultKind) → bared r ≡ bared q → q ≡ Ok n → (m : Moved) × (r ≡ Ok m)
 ok_too n (Ok m) q h e = (m, refl)
@@ -189,7 +187,7 @@ module _ (before : List Placed) (m : Moved) (read : advance_all 200 (Items ∷ [
       ok_too r.next (advance limit m.stack false at l) (advance limit r.moved.stack false r.at l) (same_advance limit m.stack r.moved.stack false at r.at l stacks)
       r.goes_on
 
-  deeply : (l : Lexeme) → GoesOn (said before ++ l ∷ []) → GoesOnDeeply (said before ++ l ∷ [])
+  abbrev deeply : (l : Lexeme) → GoesOn (said before ++ l ∷ []) → GoesOnDeeply (said before ++ l ∷ [])
   deeply l g = record { program = g.program; rest = g.rest; fits = g.fits; says_so = g.says_so }
 
   would : (l : Lexeme) → would_take 200 m.stack l ≡ true → GoesOn (said before ++ l ∷ [])
@@ -213,12 +211,12 @@ module _ (before : List Placed) (m : Moved) (read : advance_all 200 (Items ∷ [
     only_deep g =
         let most : ℕ = 200 + program_depth g.program in
         let t = takes_with most (omega arith) at l g (omega arith) in
-        go (wider 200 most (omega arith) m.stack false at l) t.0 t.1
+        go most (wider 200 most (omega arith) m.stack false at l) t.0 t.1
       where
-        go : {most : ℕ} → (advance 200 m.stack false at l ≡ Err fault.TooDeep) ⊎ (advance most m.stack false at l ≡ advance 200 m.stack false at l) → (n : Moved)
+        go : (most : ℕ) → (advance 200 m.stack false at l ≡ Err fault.TooDeep) ⊎ (advance most m.stack false at l ≡ advance 200 m.stack false at l) → (n : Moved)
             → advance most m.stack false at l ≡ Ok n → kind ≡ fault.TooDeep
-        go (inl e) n f = cc
-        go (inr e) n f = absurd cc
+        go most (inl e) n f = cc
+        go most (inr e) n f = absurd cc
 
     is_deep : kind ≡ fault.TooDeep → GoesOnDeeply (said before ++ l ∷ [])
     is_deep deep =
@@ -228,30 +226,31 @@ module _ (before : List Placed) (m : Moved) (read : advance_all 200 (Items ∷ [
         let g = goes_with most (omega arith) at l n.0 n.1 in
         record { program = g.program; rest = g.rest; fits = g.fits; says_so = g.says_so }
 
+  not_deep : (at : ℕ) (l : Lexeme) → advance 200 m.stack false at l ≡ Err fault.Unexpected → GoesOnDeeply (said before ++ l ∷ []) → ⊥
+  not_deep at l err g = let k = only_deep at l fault.Unexpected err g in cc
+
   -- the kind of a token that is not too deep
   unexpected_kind : (at : ℕ) (l : Lexeme) → advance 200 m.stack false at l ≡ Err fault.Unexpected → IsKindAt (said before) l (Core (unexpected 200 m.stack l))
   unexpected_kind at (TheSign (sign.Core core_sign.Becomes)) err = go (would_take 200 m.stack plus) refl
     where
       go : (b : Bool) → would_take 200 m.stack plus ≡ b → IsKindAt (said before) becomes (Core (if b then fault.NotACell else fault.Unexpected))
-      go true e = ((λ g. (let k = only_deep at becomes fault.Unexpected err g in cc)), (refl, would plus e))
-      go false e = ((λ g. (let k = only_deep at becomes fault.Unexpected err g in cc)), ((λ h. would_not plus e h.1), (λ h. (let k = h.0 in cc))))
+      go true e = let c : IsNoCell (said before) becomes = (refl, would plus e) in (λ g. not_deep at becomes err g, c)
+      go false e = (λ g. not_deep at becomes err g, λ h. would_not plus e h.1, λ h. (let k = h.0 in cc))
   unexpected_kind at (TheNumber n) err = go (n == 2 ^ 63) refl (would_take 200 m.stack (TheNumber 0)) refl
     where
       go : (b : Bool) → (n == 2 ^ 63) ≡ b → (c : Bool) → would_take 200 m.stack (TheNumber 0) ≡ c
           → IsKindAt (said before) (TheNumber n) (Core (if b && c then fault.BadNumber else fault.Unexpected))
-      go true e true f =
-          ((λ g. (let k = only_deep at (TheNumber n) fault.Unexpected err g in cc)), (ap (λ k. TheNumber k) (eqb-true n (2 ^ 63) e), would (TheNumber 0) f))
-      go true e false f = ((λ g. (let k = only_deep at (TheNumber n) fault.Unexpected err g in cc)),
-          ((λ h. (let k = h.0 in cc)), (λ h. would_not (TheNumber 0) f h.1)))
-      go false e c f = ((λ g. (let k = only_deep at (TheNumber n) fault.Unexpected err g in cc)),
-          ((λ h. (let k = h.0 in cc)), (λ h. not_large (eq-of h.0) e)))
+      go true e true f = let c : IsTooLarge (said before) (TheNumber n) = (ap (λ k. TheNumber k) (eqb-true n (2 ^ 63) e), would (TheNumber 0) f) in
+          (λ g. not_deep at (TheNumber n) err g, c)
+      go true e false f = (λ g. not_deep at (TheNumber n) err g, λ h. (let k = h.0 in cc), λ h. would_not (TheNumber 0) f h.1)
+      go false e c f = (λ g. not_deep at (TheNumber n) err g, λ h. (let k = h.0 in cc), λ h. not_large (eq-of h.0) e)
         where
           eq-of : TheNumber n ≡ TheNumber (2 ^ 63) → n ≡ 2 ^ 63
           eq-of k = cc
 
           not_large : n ≡ 2 ^ 63 → (n == 2 ^ 63) ≡ false → ⊥
           not_large k h = let g : (n == 2 ^ 63) ≡ true = eq-eqb n (2 ^ 63) k in cc
-  unexpected_kind at l err = ((λ g. (let k = only_deep at l fault.Unexpected err g in cc)), ((λ h. (let k = h.0 in cc)), (λ h. (let k = h.0 in cc))))
+  unexpected_kind at l err = (λ g. not_deep at l err g, λ h. (let k = h.0 in cc), λ h. (let k = h.0 in cc))
 
   is_kind : (at : ℕ) (l : Lexeme) (kind : CoreFaultKind) → advance 200 m.stack false at l ≡ Err kind → (kind ≡ fault.TooDeep) ⊎ (kind ≡ fault.Unexpected)
       → IsKindAt (said before) l (Core (blamed 200 m.stack l kind))
@@ -271,12 +270,12 @@ module _ (limit at : ℕ) (l : Lexeme) where
     where
       go : ((c : Bool) → advance limit S c at l ≡ Err kind → (kind ≡ fault.TooDeep) ⊎ (kind ≡ fault.Unexpected)) → (o : Outcome)
           → advance_by limit o S (λ c. advance limit S c at l) ≡ Err kind → (kind ≡ fault.TooDeep) ⊎ (kind ≡ fault.Unexpected)
-      go f (Takes needed ws P) h = limited (nat_le needed limit) h
+      go f (Takes needed ws P) h = limited (nat_le needed limit) refl
         where
-          limited : (b : Bool) → (if b then Ok (record { appended = ws; stack = P ++ S }) else Err fault.TooDeep) ≡ Err kind
-              → (kind ≡ fault.TooDeep) ⊎ (kind ≡ fault.Unexpected)
-          limited true k = absurd cc
-          limited false k = inl cc
+          limited : (b : Bool) → nat_le needed limit ≡ b → (kind ≡ fault.TooDeep) ⊎ (kind ≡ fault.Unexpected)
+          limited true i = let g : advance_by limit (Takes needed ws P) S (λ c. advance limit S c at l) ≡ Ok (record { appended = ws; stack = P ++ S }) =
+              rw i refl in absurd cc
+          limited false i = let g : advance_by limit (Takes needed ws P) S (λ c. advance limit S c at l) ≡ Err fault.TooDeep = rw i refl in inl cc
       go f (Passes ws) h = f false (two_kinds_after ws (advance limit S false at l) kind h)
       go f (Lacks ws) h = f true (two_kinds_after ws (advance limit S true at l) kind h)
       go f automaton.Refuses h = inr cc
