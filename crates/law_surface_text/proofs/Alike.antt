@@ -1,11 +1,11 @@
 -- PLACES SETTLE NO MOVE: the automaton does the same with the same tokens wherever they are, but for places in words and symbols.
-use Rattle.std.proofs.Common.{◌≡◌, ℕ, zero, suc, ◌+◌, ◌≤◌, Bool, true, false, List, [], ◌∷◌, ◌++◌, map, Option, None, Some, Result, Ok, Err, refl, sym, ap, ◌∙◌, subst}
+use Rattle.std.proofs.Common.{◌≡◌, ℕ, zero, ◌+◌, ◌≤◌, Bool, true, false, List, [], ◌∷◌, ◌++◌, map, Option, None, Some, Result, Ok, Err, refl, sym, ap, ◌∙◌, subst}
 use Rattle.std.proofs.Common.{arith, inl, inr, if◌then◌else◌}
 use Rattle.std.specs.Prelude.{◌^◌, ◌⊎◌, nat_le, nat_lt, is_some}
 use Rattle.std.proofs.lemmas.Bool.{leb-true, le-leb}
 use Rattle.lemmas.proofs.Lists.{map_append}
 use Rattle.source.specs.declared.fault.FaultKind.{FaultKind as CoreFaultKind}
-use Rattle.source.specs.declared.fault.FaultKind.TheVariants.{TooDeep, Unexpected}
+use Rattle.source.specs.declared.fault.FaultKind.TheVariants.{TooDeep}
 use Rattle.source.specs.declared.token.Keyword.TheVariants as core_keyword
 use Rattle.source.specs.declared.token.Sign.TheVariants as core_sign
 use Rattle.source.specs.declared.word.Word.TheVariants as core_word
@@ -19,11 +19,11 @@ use Rattle.surface.specs.Spelled.{Lexeme, TheWord, TheSign, TheNumber, TheName}
 use Rattle.surface.specs.Words.{Words, of_core}
 use Rattle.law_surface_text.specs.declared.symbol.NameWord.{NameWord}
 use Rattle.law_surface_text.specs.declared.symbol.Symbol.{Symbol}
-use Rattle.law_surface_text.specs.declared.symbol.Symbol.TheVariants.{Sign as OneSign, Keyword as OneWord, Emit, Name as OneName, Items, Parameter}
-use Rattle.law_surface_text.specs.declared.symbol.Symbol.TheVariants.{AfterParameter, Rank, Parameters, Results, ResultCount, FunctionBody, Steps, ArmEnd}
-use Rattle.law_surface_text.specs.declared.symbol.Symbol.TheVariants.{StepOtherwise, ChainEnd, Target, Targets, StepEnd, Operand, Negated, After, AfterName}
-use Rattle.law_surface_text.specs.declared.symbol.Symbol.TheVariants.{AfterIndexes, Callee, Further, Indexes, Otherwise, Bound, Starts, Turn, ForBound}
-use Rattle.law_surface_text.specs.declared.symbol.Symbol.TheVariants.{AfterForName, Range, Carried}
+use Rattle.law_surface_text.specs.declared.symbol.Symbol.TheVariants.{Emit, Name as OneName, Parameter}
+use Rattle.law_surface_text.specs.declared.symbol.Symbol.TheVariants.{AfterParameter, Rank, ResultCount, FunctionBody, Steps, ArmEnd}
+use Rattle.law_surface_text.specs.declared.symbol.Symbol.TheVariants.{StepOtherwise, ChainEnd, Target, StepEnd, Operand, Negated, After, AfterName}
+use Rattle.law_surface_text.specs.declared.symbol.Symbol.TheVariants.{AfterIndexes, Callee, Further, Otherwise, Bound, ForBound}
+use Rattle.law_surface_text.specs.declared.symbol.Symbol.TheVariants.{AfterForName}
 use Rattle.law_surface_text.specs.Automaton.{Stack, Outcome, Takes, Passes, Lacks, Refuses, appending, above, small, one_name, Operator, after_operator, operator_of}
 use Rattle.law_surface_text.specs.Automaton.{goes_on, after, after_name, after_indexes, operand_word, operand_sign, operand, negated, callee, otherwise, bound}
 use Rattle.law_surface_text.specs.Automaton.{for_bound, after_for_name, steps, arm_end, step_otherwise, target, parameter, after_parameter, rank, result_count}

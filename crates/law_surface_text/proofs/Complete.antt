@@ -1,7 +1,7 @@
 -- COMPLETE: the tokens of a fitting program are read to their end, and its words are appended.
-use Rattle.std.proofs.Common.{◌≡◌, ℕ, zero, suc, ◌+◌, ◌<◌, ◌≤◌, max, Bool, true, false, List, [], ◌∷◌, ◌++◌, map, length, Option, None, Some, Result, Ok, Err}
-use Rattle.std.proofs.Common.{refl, sym, ap, ◌∙◌, subst, append_assoc, append-nil, arith}
-use Rattle.std.specs.Prelude.{⊤, replicate}
+use Rattle.std.proofs.Common.{◌≡◌, ℕ, zero, suc, ◌+◌, ◌<◌, ◌≤◌, Bool, true, false, List, [], ◌∷◌, ◌++◌, map, length, Option, None, Some, Result, Ok, Err}
+use Rattle.std.proofs.Common.{refl, sym, ap, ◌∙◌, append_assoc, append-nil, arith}
+use Rattle.std.specs.Prelude.{replicate}
 use Rattle.std.proofs.Math.Nat.{le-max_left, le-max_right}
 use Rattle.std.proofs.lemmas.List.Concat.{flat_map-cons}
 use Rattle.operators.specs.declared.Unary.TheVariants.{Neg, Not as Inverted}
@@ -10,7 +10,6 @@ use Rattle.source.specs.declared.token.Keyword.TheVariants as core_keyword
 use Rattle.source.specs.declared.token.Sign.TheVariants as core_sign
 use Rattle.source.specs.declared.word.Word.TheVariants as core_word
 use Rattle.source.specs.Tree.{Name, NameAt}
-use Rattle.surface.specs.declared.fault.Fault.{Fault}
 use Rattle.surface.specs.declared.token.Keyword.TheVariants as keyword
 use Rattle.surface.specs.declared.token.Sign.TheVariants as sign
 use Rattle.surface.specs.declared.token.Token.{Token}
@@ -18,20 +17,18 @@ use Rattle.surface.specs.declared.word.Word.TheVariants as word
 use Rattle.surface.specs.Tree.{Count, Written, Constant, Expr, Number, Named, Bracket, Prefix, Infix, And, Or, Not, Fetch, Store, Call, If, Loop, For, Exprs, One}
 use Rattle.surface.specs.Tree.{More, Body, Let, Do, When, Give, Chain, Tests, Last, Else, Turn as ATurn, Before, After as TestLast, Carried as ACarried}
 use Rattle.surface.specs.Tree.{Nothing, With, Param, Function, Item, Cells, Const, Defines, Program}
-use Rattle.surface.specs.Spelled.{Lexeme, TheWord, TheSign, TheNumber, TheName, Spelling, the_word, a_word, a_sign, sign_at, name_token, tokens, list_tokens}
-use Rattle.surface.specs.Spelled.{body_tokens, rank_tokens, param_tokens, params_tokens, result_tokens, item_tokens, program_tokens}
-use Rattle.surface.specs.Fits.{Fits, FitsBody, FitsItem, FitsProgram, IsSmallIfWritten, item_depth, program_depth}
-use Rattle.surface.specs.Words.{Words, of_core, words, part_words, body_words, param_word, result_words, item_words, program_words}
+use Rattle.surface.specs.Spelled.{Lexeme, TheWord, TheSign, TheNumber, TheName, Spelling, a_word, a_sign, sign_at, name_token, tokens}
+use Rattle.surface.specs.Spelled.{body_tokens, param_tokens, params_tokens, result_tokens, item_tokens, program_tokens}
+use Rattle.surface.specs.Fits.{FitsBody, FitsItem, FitsProgram, IsSmallIfWritten, item_depth, program_depth}
+use Rattle.surface.specs.Words.{Words, of_core, body_words, param_word, result_words, item_words, program_words}
 use Rattle.surface.specs.Parses.{Parses}
 use Rattle.law_surface_text.specs.declared.symbol.NameWord.TheVariants as naming
 use Rattle.law_surface_text.specs.declared.symbol.Symbol.TheVariants.{Emit, Name as OneName, Items, Parameter, AfterParameter, Rank, Parameters, Results}
 use Rattle.law_surface_text.specs.declared.symbol.Symbol.TheVariants.{ResultCount, FunctionBody, Steps, Operand, Further}
-use Rattle.law_surface_text.specs.Automaton.{Stack, Takes, Passes, Placed, placed, Moved, Joins, AndAlso, OrElse, step, after_parameter, advance, ended_then, finish}
+use Rattle.law_surface_text.specs.Automaton.{Stack, Passes, Placed, placed, Moved, Joins, AndAlso, OrElse, step, after_parameter, advance, ended_then}
 use Rattle.law_surface_text.specs.Automaton.{finished, words_after, run_on, run, parsed, open_paren, close_paren, open_bracket, close_bracket, semicolon, equals}
 use Rattle.law_surface_text.proofs.Meaning.{after_commas}
-use Rattle.law_surface_text.proofs.ExplainOperands.{operator_lexeme}
 use Rattle.law_surface_text.proofs.ExplainItems.{params_are}
-use Rattle.law_surface_text.proofs.Followed.{Ends}
 use Rattle.law_surface_text.proofs.Runs.{Spells, spells}
 use Rattle.law_surface_text.proofs.Reading.{Reads, reading, read_on, Follows, Any, Starting, reads_as, reads_none, reads_may, reads_then, reads_pass, reads_at, reads_any}
 use Rattle.law_surface_text.proofs.Reading.{reads_sign, reads_emit, emit_passes, reads_passed, symbol_passes}

@@ -1,39 +1,34 @@
 -- What the symbols of lists, loops, bodies and items do with a token is right.
-use Rattle.std.proofs.Common.{◌≡◌, ℕ, zero, suc, ◌+◌, ◌<◌, ◌≤◌, max, Bool, true, false, List, [], ◌∷◌, ◌++◌, map, length, None, Some, Option, refl, sym, ap, ◌∙◌}
+use Rattle.std.proofs.Common.{◌≡◌, ℕ, suc, ◌+◌, ◌≤◌, max, Bool, true, false, List, [], ◌∷◌, ◌++◌, map, length, None, Some, refl, sym, ap, ◌∙◌}
 use Rattle.std.proofs.Common.{subst, append_assoc, append-nil, arith}
-use Rattle.std.specs.Prelude.{IsTrue, replicate}
-use Rattle.source.specs.declared.token.Keyword.{Keyword as CoreKeyword}
+use Rattle.std.specs.Prelude.{IsTrue}
 use Rattle.source.specs.declared.token.Keyword.TheVariants as core_keyword
 use Rattle.source.specs.declared.token.Sign.TheVariants as core_sign
 use Rattle.source.specs.declared.word.Word.TheVariants as core_word
-use Rattle.source.specs.Tree.{Name, NameAt, Bind, Drop}
-use Rattle.surface.specs.declared.token.Keyword.{Keyword}
+use Rattle.source.specs.Tree.{Name, Bind, Drop}
 use Rattle.surface.specs.declared.token.Keyword.TheVariants as keyword
-use Rattle.surface.specs.declared.token.Sign.{Sign}
 use Rattle.surface.specs.declared.token.Sign.TheVariants as sign
 use Rattle.surface.specs.declared.word.Word.{Word}
 use Rattle.surface.specs.declared.word.Word.TheVariants as word
-use Rattle.surface.specs.Tree.{Count, Written, Constant, Expr, If, Exprs, One, More, Body, Let, Do, When, Give, Chain, Tests, Last, Else, Before}
-use Rattle.surface.specs.Tree.{After as TestLast, Nothing, With, Param, Item, Cells, Const, Defines, names_of}
+use Rattle.surface.specs.Tree.{Count, Written, Constant, Expr, If, Exprs, One, More, Let, Do, When, Give, Chain, Last, Else, Before}
+use Rattle.surface.specs.Tree.{After as TestLast, Nothing, With}
 use Rattle.surface.specs.Spelled.{Lexeme, TheWord, TheSign, TheNumber, TheName, Spelling, the_word, a_word, a_sign, word_at, name_at, name_token, target_token}
-use Rattle.surface.specs.Spelled.{with_commas, count_token, tokens, list_tokens, first_tokens, body_tokens, tests_tokens, turn_tokens, param_tokens, params_tokens}
-use Rattle.surface.specs.Spelled.{braced, the_sign, carried_tokens, result_tokens, item_tokens}
-use Rattle.surface.specs.Fits.{body_depth, Fits, FitsItem, IsSmall, is_if, level, depth, tests_depth, item_depth}
+use Rattle.surface.specs.Spelled.{with_commas, count_token, tokens, list_tokens, first_tokens, body_tokens, turn_tokens}
+use Rattle.surface.specs.Spelled.{braced, the_sign, carried_tokens}
+use Rattle.surface.specs.Fits.{body_depth, IsSmall, is_if, level, depth}
 use Rattle.surface.specs.Words.{Words, of_core, target_word, words, part_words, index_words, first_words, body_words, tests_words, turn_words, end_loop}
-use Rattle.surface.specs.Words.{bound_word, carried_words, param_word, ranked_word, item_words}
+use Rattle.surface.specs.Words.{bound_word, carried_words}
 use Rattle.law_language.proofs.GrammarGivens.{deep_max}
-use Rattle.law_surface_text.specs.declared.symbol.Symbol.{Symbol}
-use Rattle.law_surface_text.specs.declared.symbol.Symbol.TheVariants.{Sign as OneSign, Keyword as OneWord, Emit, Name as OneName, Items, Parameter}
-use Rattle.law_surface_text.specs.declared.symbol.Symbol.TheVariants.{AfterParameter, Rank, Parameters, Results, ResultCount, FunctionBody, Steps, ArmEnd}
+use Rattle.law_surface_text.specs.declared.symbol.Symbol.TheVariants.{Steps, ArmEnd}
 use Rattle.law_surface_text.specs.declared.symbol.Symbol.TheVariants.{StepOtherwise, ChainEnd, Target, Targets, StepEnd, Operand, After, Callee, Further}
-use Rattle.law_surface_text.specs.declared.symbol.Symbol.TheVariants.{Indexes, Otherwise, Bound, Starts, Turn, ForBound, AfterForName, Range, Carried}
-use Rattle.law_surface_text.specs.Automaton.{Outcome, Takes, Passes, Lacks, Refuses, small, one_name, callee, further, indexes, starts, loop_rest, bound, turn}
+use Rattle.law_surface_text.specs.declared.symbol.Symbol.TheVariants.{Indexes, Bound, Starts, Turn, ForBound, AfterForName, Range, Carried}
+use Rattle.law_surface_text.specs.Automaton.{callee, further, indexes, starts, loop_rest, bound, turn}
 use Rattle.law_surface_text.specs.Automaton.{range_rest, for_bound, after_for_name, range, carried, steps, arm_end, step_otherwise, target, targets, step_end}
-use Rattle.law_surface_text.specs.Automaton.{tested, items, parameter, after_parameter, rank, parameters, results, result_count, function_body, operand, lacking_step, Stack}
-use Rattle.law_surface_text.specs.Ready.{Ready, AllReady}
-use Rattle.law_surface_text.proofs.Meaning.{Sort, IsExpr, AreAll, Ops, Bodies, Loops, Ranges, Fors, Operands, Lists, Firsts, Ends, ForHeads, Branching, Branches}
-use Rattle.law_surface_text.proofs.Meaning.{branching_tokens, branching_words, branching_depth, FitsBranching, AfterArm, AfterElse, AfterPart, after_commas}
-use Rattle.law_surface_text.proofs.Meaning.{range_tokens, range_words, for_tokens, for_words, Is, Given, meaning, lacking_meaning, Explains, takes, passes, lacks, refuses}
+use Rattle.law_surface_text.specs.Automaton.{tested, lacking_step, Stack}
+use Rattle.law_surface_text.specs.Ready.{AllReady}
+use Rattle.law_surface_text.proofs.Meaning.{Sort, IsExpr, AreAll, Ops, Bodies, Branches}
+use Rattle.law_surface_text.proofs.Meaning.{AfterArm, AfterPart, after_commas}
+use Rattle.law_surface_text.proofs.Meaning.{Is, Given, meaning, lacking_meaning, Explains, takes, passes, lacks, refuses}
 use Rattle.law_surface_text.proofs.Givens.{given_map, as_is, held, explains_small, explains_above}
 use Rattle.law_surface_text.proofs.ExplainOperands.{no_chain, behind_else, if_is, explains_operand, operand_stays}
 
@@ -140,7 +135,6 @@ module _ (limit : ℕ) where
         says = simp append-nil;
       }))
   explains_turn d at l r = refuses
-
 
   ready_loop : (d : ℕ) (last : Word Name) → d + 1 ≤ limit → AllReady limit (loop_rest d last)
   ready_loop d last r = (tt, (tt, (tt, ((omega arith, r), (r, (tt, (r, (tt, tt))))))))
@@ -327,13 +321,18 @@ module _ (limit : ℕ) where
     says = simp append-nil;
   })
   explains_arm_end begun d at l r = lacks (record {
-    part = record { lacks = true; ss = []; ws = word.EndWhen begun ∷ []; is = λ p is b. record {
-      of = Last begun p b.b;
-      fits = (is.fits, b.fits);
-      deep = (let f : d + suc (max (suc (depth p)) (body_depth b.b)) ≤ limit = (let g = deep_max (d + 1) _ _ limit (first_deep d p is) b.deep in omega arith) in f);
-      spelled = simp append-nil;
-      says = refl;
-    } };
+    part = record {
+      lacks = true;
+      ss = [];
+      ws = word.EndWhen begun ∷ [];
+      is = λ p is b. record {
+        of = Last begun p b.b;
+        fits = (is.fits, b.fits);
+        deep = (let f : d + suc (max (suc (depth p)) (body_depth b.b)) ≤ limit = (let g = deep_max (d + 1) _ _ limit (first_deep d p is) b.deep in omega arith) in f);
+        spelled = simp append-nil;
+        says = refl;
+      };
+    };
     ends = refl;
     spelled = refl;
     says = refl;
@@ -359,35 +358,45 @@ module _ (limit : ℕ) where
   chain_of : (begun d : ℕ) (c : Bool) (ss : List Spelling) (ws : Words) → Branches limit (d + 1) c ss ws
       → Given limit c (ChainEnd begun ∷ []) (λ e ts vs. Is (meaning limit (StepOtherwise begun d)) e (ss ++ ts) (ws ++ vs))
   chain_of begun d true ss ws y = λ a. record {
-    part = record { lacks = true; ss = ss; ws = ws ++ word.EndWhen begun ∷ []; is = λ p is b. record {
-      of = Else begun p b.b y.of;
-      fits = (is.fits, b.fits, y.fits);
-      deep = (let f : (d + 1) + suc (depth p) ≤ limit = (let g = is.deep in omega arith) in
-          let g = deep_max (d + 1) _ _ limit f (deep_max (d + 1) _ _ limit b.deep y.deep) in omega arith);
-      spelled = ap (λ t. (word_at begun (keyword.Core core_keyword.If) ∷ tokens p ++ a_sign core_sign.OpenBrace ∷ body_tokens b.b) ++
-          a_word core_keyword.Else ∷ t) y.spelled;
-      says = append_assoc (words p ++ of_core core_word.Then ∷ body_words b.b) (of_core core_word.Else ∷ tests_words y.of) (word.EndWhen begun ∷ [])
-          ∙ ap (λ t. (words p ++ of_core core_word.Then ∷ body_words b.b) ++ of_core core_word.Else ∷ (t ++ word.EndWhen begun ∷ [])) y.says;
-    } };
+    part = record {
+      lacks = true;
+      ss = ss;
+      ws = ws ++ word.EndWhen begun ∷ [];
+      is = λ p is b. record {
+        of = Else begun p b.b y.of;
+        fits = (is.fits, b.fits, y.fits);
+        deep = (let f : (d + 1) + suc (depth p) ≤ limit = (let g = is.deep in omega arith) in
+            let g = deep_max (d + 1) _ _ limit f (deep_max (d + 1) _ _ limit b.deep y.deep) in omega arith);
+        spelled = ap (λ t. (word_at begun (keyword.Core core_keyword.If) ∷ tokens p ++ a_sign core_sign.OpenBrace ∷ body_tokens b.b) ++
+            a_word core_keyword.Else ∷ t) y.spelled;
+        says = append_assoc (words p ++ of_core core_word.Then ∷ body_words b.b) (of_core core_word.Else ∷ tests_words y.of) (word.EndWhen begun ∷ [])
+            ∙ ap (λ t. (words p ++ of_core core_word.Then ∷ body_words b.b) ++ of_core core_word.Else ∷ (t ++ word.EndWhen begun ∷ [])) y.says;
+      };
+    };
     ends = refl;
     spelled = sym (append-nil ss);
     says = refl;
   }
   chain_of begun d false ss ws y = λ a. record {
-    part = record { lacks = false; ss = ss; ws = ws ++ of_core core_word.Chain ∷ of_core (core_word.EndIf begun) ∷ []; is = λ p is b.
-        let r : Bodies limit true (d + 1) = record { b = Chain y.of.0; fits = (refl, y.of.1, y.fits); deep = y.deep } in
-        let i = if_is limit begun d p is b r in record {
-          of = (If begun p b.b (Chain y.of.0), refl);
-          fits = i.fits;
-          deep = i.deep;
-          spelled = ap (λ t. (word_at begun (keyword.Core core_keyword.If) ∷ tokens p ++ a_sign core_sign.OpenBrace ∷ body_tokens b.b) ++
-              a_word core_keyword.Else ∷ t) y.spelled;
-          says = append_assoc (words p ++ of_core core_word.Then ∷ body_words b.b)
-              (of_core core_word.Else ∷ words y.of.0 ++ of_core core_word.Chain ∷ []) (of_core (core_word.EndIf begun) ∷ [])
-              ∙ ap (λ t. (words p ++ of_core core_word.Then ∷ body_words b.b) ++ of_core core_word.Else ∷ t)
-              (append_assoc (words y.of.0) (of_core core_word.Chain ∷ []) (of_core (core_word.EndIf begun) ∷ [])
-              ∙ ap (λ t. t ++ of_core core_word.Chain ∷ of_core (core_word.EndIf begun) ∷ []) y.says);
-        } };
+    part = record {
+      lacks = false;
+      ss = ss;
+      ws = ws ++ of_core core_word.Chain ∷ of_core (core_word.EndIf begun) ∷ [];
+      is = λ p is b.
+          let r : Bodies limit true (d + 1) = record { b = Chain y.of.0; fits = (refl, y.of.1, y.fits); deep = y.deep } in
+          let i = if_is limit begun d p is b r in record {
+            of = (If begun p b.b (Chain y.of.0), refl);
+            fits = i.fits;
+            deep = i.deep;
+            spelled = ap (λ t. (word_at begun (keyword.Core core_keyword.If) ∷ tokens p ++ a_sign core_sign.OpenBrace ∷ body_tokens b.b) ++
+                a_word core_keyword.Else ∷ t) y.spelled;
+            says = append_assoc (words p ++ of_core core_word.Then ∷ body_words b.b)
+                (of_core core_word.Else ∷ words y.of.0 ++ of_core core_word.Chain ∷ []) (of_core (core_word.EndIf begun) ∷ [])
+                ∙ ap (λ t. (words p ++ of_core core_word.Then ∷ body_words b.b) ++ of_core core_word.Else ∷ t)
+                (append_assoc (words y.of.0) (of_core core_word.Chain ∷ []) (of_core (core_word.EndIf begun) ∷ [])
+                ∙ ap (λ t. t ++ of_core core_word.Chain ∷ of_core (core_word.EndIf begun) ∷ []) y.says);
+          };
+    };
     ends = refl;
     spelled = sym (append-nil ss);
     says = refl;

@@ -1,7 +1,6 @@
 -- What the symbols of items do with a token is right; and so it is of each symbol.
-use Rattle.std.proofs.Common.{◌≡◌, ℕ, zero, suc, ◌+◌, ◌<◌, ◌≤◌, max, Bool, true, false, List, [], ◌∷◌, ◌++◌, map, length, None, Some, Option, refl, sym, ap, ◌∙◌}
+use Rattle.std.proofs.Common.{◌≡◌, ℕ, suc, ◌+◌, ◌≤◌, Bool, true, false, List, [], ◌∷◌, ◌++◌, map, None, Some, refl, sym, ap, ◌∙◌}
 use Rattle.std.proofs.Common.{append_assoc, append-nil, arith}
-use Rattle.std.specs.Prelude.{replicate}
 use Rattle.std.proofs.lemmas.List.Concat.{flat_map-cons}
 use Rattle.source.specs.declared.token.Keyword.TheVariants as core_keyword
 use Rattle.source.specs.declared.token.Sign.TheVariants as core_sign
@@ -9,13 +8,12 @@ use Rattle.source.specs.declared.word.Word.TheVariants as core_word
 use Rattle.source.specs.Tree.{Name}
 use Rattle.surface.specs.declared.token.Keyword.TheVariants as keyword
 use Rattle.surface.specs.declared.token.Sign.TheVariants as sign
-use Rattle.surface.specs.declared.word.Word.{Word}
 use Rattle.surface.specs.declared.word.Word.TheVariants as word
 use Rattle.surface.specs.Tree.{Written, Constant, Param, Function, Item, Cells, Const, Defines}
-use Rattle.surface.specs.Spelled.{Lexeme, TheWord, TheSign, TheNumber, TheName, Spelling, the_word, a_word, a_sign, sign_at, name_at, name_token, list_tokens}
+use Rattle.surface.specs.Spelled.{Lexeme, TheWord, TheSign, TheNumber, TheName, Spelling, the_word, a_word, a_sign, sign_at, name_at, name_token}
 use Rattle.surface.specs.Spelled.{tokens, body_tokens, param_tokens, params_tokens, result_tokens, item_tokens, program_tokens}
 use Rattle.surface.specs.Fits.{FitsItem, item_depth}
-use Rattle.surface.specs.Words.{Words, of_core, part_words, words, body_words, param_word, ranked_word, result_words, item_words, program_words}
+use Rattle.surface.specs.Words.{Words, of_core, words, body_words, param_word, result_words, item_words, program_words}
 use Rattle.std.proofs.Math.Nat.{max-le}
 use Rattle.law_surface_text.specs.declared.symbol.Symbol.{Symbol}
 use Rattle.law_surface_text.specs.declared.symbol.Symbol.TheVariants.{Sign as OneSign, Keyword as OneWord, Emit, Name as OneName, Items, Parameter}
@@ -26,7 +24,7 @@ use Rattle.law_surface_text.specs.declared.symbol.Symbol.TheVariants.{AfterForNa
 use Rattle.law_surface_text.specs.Automaton.{is_sign, is_word, one_name, items, parameter, after_parameter, rank, parameters, results, result_count}
 use Rattle.law_surface_text.specs.Automaton.{function_body, step, step_below, lacking_step}
 use Rattle.law_surface_text.specs.Ready.{Ready}
-use Rattle.law_surface_text.proofs.Meaning.{Programs, Parameters1, Ranks, after_commas, Is, Given, meaning, lacking_meaning, meaning_below, Explains, takes}
+use Rattle.law_surface_text.proofs.Meaning.{Programs, Parameters1, Ranks, after_commas, Is, meaning, lacking_meaning, meaning_below, Explains, takes}
 use Rattle.law_surface_text.proofs.Meaning.{passes, lacks, refuses}
 use Rattle.law_surface_text.proofs.Givens.{held, explains_if, explains_small}
 use Rattle.law_surface_text.proofs.Terminals.{that_sign, that_word}

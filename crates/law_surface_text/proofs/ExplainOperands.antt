@@ -1,7 +1,7 @@
 -- What an operand, and what follows it, does with a token is right.
 use Rattle.std.proofs.Common.{◌≡◌, ℕ, zero, suc, ◌+◌, ◌<◌, ◌≤◌, max, Bool, true, false, List, [], ◌∷◌, ◌++◌, None, Some, Option, refl, sym, ap, ◌∙◌, subst}
 use Rattle.std.proofs.Common.{append_assoc, append-nil, arith, inl, inr}
-use Rattle.std.specs.Prelude.{◌^◌, ◌⊎◌, nat_le, nat_lt, IsTrue}
+use Rattle.std.specs.Prelude.{◌^◌, ◌⊎◌, nat_le, nat_lt}
 use Rattle.std.proofs.lemmas.Bool.{leb-true}
 use Rattle.std.proofs.Math.Nat.{eq-or-lt_of_le}
 use Rattle.lemmas.proofs.Bools.{first_of_and, second_of_and}
@@ -9,7 +9,6 @@ use Rattle.operators.specs.declared.Unary.TheVariants.{Neg, Not as Inverted}
 use Rattle.operators.specs.declared.Binary.TheVariants as binary
 use Rattle.source.specs.declared.token.Keyword.TheVariants as core_keyword
 use Rattle.source.specs.declared.token.Sign.TheVariants as core_sign
-use Rattle.source.specs.declared.word.InfixSign.{InfixSign}
 use Rattle.source.specs.declared.word.InfixSign.TheVariants.{Direct, Greater, AtLeast}
 use Rattle.source.specs.declared.word.Word.TheVariants as core_word
 use Rattle.source.specs.Tree.{Name}
@@ -20,19 +19,19 @@ use Rattle.surface.specs.declared.token.Sign.{Sign}
 use Rattle.surface.specs.declared.token.Sign.TheVariants as sign
 use Rattle.surface.specs.declared.word.Word.TheVariants as word
 use Rattle.surface.specs.Tree.{Expr, Number, Named, Bracket, Prefix, Infix, And, Or, Not, Fetch, Store, Call, If, Loop, For, Body, Let, Do, When, Give, Chain}
-use Rattle.surface.specs.Spelled.{name_token, is_chain, Lexeme, TheWord, TheSign, TheNumber, TheName, Spelling, the_word, the_sign, a_word, a_sign, word_at, tokens, body_tokens}
-use Rattle.surface.specs.Fits.{sign_level, left_level, level, Fits, FitsBody, IsLeast, is_if, depth, body_depth, prefix_depth}
-use Rattle.surface.specs.Words.{Words, of_core, words, body_words, index_words}
+use Rattle.surface.specs.Spelled.{name_token, is_chain, Lexeme, TheWord, TheSign, TheNumber, TheName, Spelling, the_word, the_sign, a_sign, word_at, tokens, body_tokens}
+use Rattle.surface.specs.Fits.{level, Fits, FitsBody, IsLeast, depth, prefix_depth}
+use Rattle.surface.specs.Words.{Words, of_core, words, body_words}
 use Rattle.law_language.proofs.GrammarExplainFollowing.{sign_level_most}
 use Rattle.law_language.proofs.GrammarGivens.{deep_max}
-use Rattle.law_surface_text.specs.declared.symbol.Symbol.TheVariants.{Emit, Steps, Operand, Negated, After, AfterName, AfterIndexes, Callee, Otherwise}
+use Rattle.law_surface_text.specs.declared.symbol.Symbol.TheVariants.{Emit, Operand, Negated, After, AfterName, AfterIndexes, Otherwise}
 use Rattle.law_surface_text.specs.Automaton.{Stack, Operator, Joins, AndAlso, OrElse, operator_level, operand_level, between, joined, operator_of, goes_on}
 use Rattle.law_surface_text.specs.Automaton.{Outcome, Takes, Passes, Lacks, Refuses, appending}
 use Rattle.law_surface_text.specs.Automaton.{after_operator, after, after_name, after_indexes, conditional, operand_word, operand_sign, operand, negated}
-use Rattle.law_surface_text.specs.Automaton.{callee, otherwise}
+use Rattle.law_surface_text.specs.Automaton.{otherwise}
 use Rattle.law_surface_text.specs.Ready.{Ready, AllReady}
-use Rattle.law_surface_text.proofs.Meaning.{IsExpr, AreAll, Ops, Negs, Bodies, Operands, AfterOperand, Is, Given, meaning, Explains, takes, passes, refuses}
-use Rattle.law_surface_text.proofs.Givens.{stays, stays_if, as_is, held, explains_if, explains_small, explains_as, given_map}
+use Rattle.law_surface_text.proofs.Meaning.{IsExpr, Ops, Bodies, Operands, AfterOperand, Is, meaning, Explains, takes, passes, refuses}
+use Rattle.law_surface_text.proofs.Givens.{stays, stays_if, as_is, held, explains_if, explains_small, explains_as}
 
 -- OPERATORS
 abbrev pub operator_lexeme : Operator → Lexeme
@@ -257,7 +256,7 @@ module _ (limit : ℕ) where
         fits = (f.bound.small, f.range.first.is.fits, f.range.end.is.fits, f.range.carries.fits, f.range.body.fits);
         deep = deep_max d _ _ limit (let g = f.range.first.is.deep in omega arith) (deep_max d _ _ limit (let g = f.range.end.is.deep in omega arith)
             (deep_max d _ _ limit f.range.carries.deep f.range.body.deep));
-      }) (omega arith) (omega arith)) 
+      }) (omega arith) (omega arith))
       (ap (λ t. word_at at keyword.For ∷ t) (for_tokens_are _ _ _ _ _ a.ss (name_token f.i) (the_word keyword.In) (the_sign sign.Range)
       (a_sign core_sign.OpenBrace)))
       (ap (λ t. word.For at ∷ t) (for_words_are _ _ _ _ _ a.ws (word.Counter f.i.at f.i.name) word.Range word.EndRange word.Turns (word.EndFor at))))

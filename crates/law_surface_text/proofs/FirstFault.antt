@@ -1,10 +1,8 @@
 -- FAULTS: the first fault of a run is the fault of the text.
-use Rattle.std.proofs.Common.{◌≡◌, ℕ, ◌+◌, ◌≤◌, max, Bool, true, false, List, [], ◌∷◌, ◌++◌, map, length, Option, None, Some, Result, Ok, Err, refl, sym, ap, ◌∙◌}
+use Rattle.std.proofs.Common.{◌≡◌, ℕ, ◌+◌, ◌≤◌, Bool, true, false, List, [], ◌∷◌, ◌++◌, map, length, Option, None, Some, Result, Ok, Err, refl, sym, ap, ◌∙◌}
 use Rattle.std.proofs.Common.{subst, append_assoc, arith, inl, inr, if◌then◌else◌}
 use Rattle.std.specs.Prelude.{◌^◌, ◌⊎◌, ◌==◌, ◌&&◌, nat_le, is_some}
 use Rattle.std.proofs.lemmas.Bool.{eqb-true, eq-eqb}
-use Rattle.std.proofs.Math.Nat.{le-max_left, le-max_right}
-use Rattle.lemmas.proofs.Bools.{first_of_and, second_of_and}
 use Rattle.source.specs.declared.fault.FaultKind.{FaultKind as CoreFaultKind}
 use Rattle.source.specs.declared.fault.FaultKind.TheVariants as fault
 use Rattle.source.specs.declared.token.Sign.TheVariants as core_sign
@@ -26,7 +24,7 @@ use Rattle.law_surface_text.proofs.Runs.{Spells, moved_by, advance_all, Ran, who
 use Rattle.law_surface_text.proofs.Sound.{Goes, said, said_lexemes, goes}
 use Rattle.law_surface_text.proofs.Reading.{reading, read_on}
 use Rattle.law_surface_text.proofs.Complete.{program_is_read}
-use Rattle.law_surface_text.proofs.Alike.{bares, bared, stack_of, same_advance, same_advance_all, same_finish, wider, wider_all, Taken, taken}
+use Rattle.law_surface_text.proofs.Alike.{bares, bared, stack_of, same_advance, same_advance_all, same_finish, wider, wider_all, taken}
 
 abbrev becomes : Lexeme
 becomes = TheSign (sign.Core core_sign.Becomes)
@@ -140,9 +138,10 @@ ok_too n (Err kind) q h e = absurd (let k : Err kind ≡ Ok (record { appended =
 
 advance_append : (limit : ℕ) (S : Stack) (before : List Placed) (p : Placed) (m n : Moved) → advance_all limit S before ≡ Ok m
     → advance limit m.stack false p.at p.lexeme ≡ Ok n → (k : Moved) × (advance_all limit S (before ++ p ∷ []) ≡ Ok k)
-advance_append limit S [] p m n e f = let same : S ≡ m.stack = let g : Ok (record { appended = []; stack = S }) ≡ Ok m = e in cc in
-    (record { appended = n.appended ++ []; stack = n.stack },
-    ap (λ r. moved_by r (λ T. Ok (record { appended = []; stack = T }))) (subst (λ T. advance limit T false p.at p.lexeme ≡ Ok n) (sym same) f))
+advance_append limit S [] p m n e f = let same : S ≡ m.stack = let g : Ok (record { appended = []; stack = S }) ≡ Ok m = e in cc in (
+  record { appended = n.appended ++ []; stack = n.stack },
+  ap (λ r. moved_by r (λ T. Ok (record { appended = []; stack = T }))) (subst (λ T. advance limit T false p.at p.lexeme ≡ Ok n) (sym same) f),
+)
 advance_append limit S (q ∷ before) p m n e f = go (λ T k g h. advance_append limit T before p k n g h) (advance limit S false q.at q.lexeme) refl e
   where
     go : ((T : Stack) (k : Moved) → advance_all limit T before ≡ Ok k → advance limit k.stack false p.at p.lexeme ≡ Ok n

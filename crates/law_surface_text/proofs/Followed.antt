@@ -1,24 +1,21 @@
 -- WHAT MAY FOLLOW AN EXPRESSION, and how what is on the stack then passes it.
-use Rattle.std.proofs.Common.{◌≡◌, ℕ, zero, suc, ◌+◌, ◌<◌, ◌≤◌, Bool, true, false, List, [], ◌∷◌, Option, None, Some, refl, sym, ap, ◌∙◌, subst, arith, if◌then◌else◌}
+use Rattle.std.proofs.Common.{◌≡◌, ℕ, zero, ◌+◌, ◌<◌, ◌≤◌, Bool, true, false, List, [], ◌∷◌, Option, None, Some, refl, ap, ◌∙◌, subst, arith, if◌then◌else◌}
 use Rattle.std.specs.Prelude.{◌&&◌, nat_le}
 use Rattle.std.proofs.lemmas.Bool.{le-leb, lt-leb}
 use Rattle.std.proofs.Math.Nat.{le-max_right}
 use Rattle.operators.specs.declared.Binary.TheVariants as binary
 use Rattle.source.specs.declared.token.Sign.TheVariants as core_sign
-use Rattle.source.specs.declared.word.InfixSign.{InfixSign}
-use Rattle.source.specs.declared.word.InfixSign.TheVariants.{Direct, Greater, AtLeast}
+use Rattle.source.specs.declared.word.InfixSign.TheVariants.{Direct}
 use Rattle.source.specs.declared.word.Word.TheVariants as core_word
 use Rattle.source.specs.Fits as core
 use Rattle.source.specs.Tree.{Name}
-use Rattle.source.specs.Spelled.{infix_sign}
-use Rattle.surface.specs.declared.token.Keyword.TheVariants as keyword
 use Rattle.surface.specs.declared.token.Sign.TheVariants as sign
-use Rattle.surface.specs.Spelled.{Lexeme, TheWord, TheSign}
-use Rattle.surface.specs.Words.{Words, of_core}
+use Rattle.surface.specs.Spelled.{Lexeme, TheSign}
+use Rattle.surface.specs.Words.{of_core}
 use Rattle.law_language.proofs.GrammarFollowed.{least_left}
-use Rattle.law_surface_text.specs.declared.symbol.Symbol.TheVariants.{Emit, Operand, After, AfterName, AfterIndexes, Further, Indexes, Starts}
+use Rattle.law_surface_text.specs.declared.symbol.Symbol.TheVariants.{Emit, Operand, After, AfterName, AfterIndexes}
 use Rattle.law_surface_text.specs.Automaton.{Stack, Takes, Passes, appending, Operator, Joins, AndAlso, OrElse, operator_level, operand_level, between, joined}
-use Rattle.law_surface_text.specs.Automaton.{operator_of, goes_on, after_operator, after, after_name, after_indexes, further, indexes, starts, ended_then, advance}
+use Rattle.law_surface_text.specs.Automaton.{operator_of, after_operator, after, after_name, after_indexes, further, indexes, starts, ended_then, advance}
 use Rattle.law_surface_text.specs.Automaton.{Placed, advance_by}
 use Rattle.law_surface_text.proofs.ExplainOperands.{operator_lexeme}
 use Rattle.law_surface_text.proofs.Reading.{reading, read_on, Starting, read_on_after, appending_is, symbol_passes}

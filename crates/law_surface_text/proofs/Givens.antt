@@ -1,5 +1,5 @@
 -- What holds whatever a stack reads: how stacks are joined, and how a symbol that acts as another one is right.
-use Rattle.std.proofs.Common.{◌≡◌, ℕ, ◌+◌, ◌<◌, ◌≤◌, Bool, true, false, List, [], ◌∷◌, ◌++◌, refl, sym, ap, subst, ◌∙◌, append_assoc, append-nil, arith}
+use Rattle.std.proofs.Common.{◌≡◌, ℕ, ◌<◌, Bool, true, false, List, [], ◌∷◌, ◌++◌, refl, subst, ◌∙◌, append_assoc}
 use Rattle.std.proofs.Common.{if◌then◌else◌}
 use Rattle.std.specs.Prelude.{◌^◌, nat_lt}
 use Rattle.std.proofs.lemmas.Bool.{ltb-true}
@@ -7,7 +7,7 @@ use Rattle.surface.specs.Spelled.{Lexeme, Spelling}
 use Rattle.surface.specs.Words.{Words}
 use Rattle.law_surface_text.specs.Automaton.{Stack, Outcome, Takes, Passes, Lacks, Refuses, appending, above, small}
 use Rattle.law_surface_text.specs.Ready.{AllReady}
-use Rattle.law_surface_text.proofs.Meaning.{Sort, Rest, rest, Is, Given, meaning, meaning_below, Explains, takes, passes, lacks, refuses}
+use Rattle.law_surface_text.proofs.Meaning.{Sort, rest, Is, Given, meaning_below, Explains, takes, passes, lacks, refuses}
 
 -- STACKS
 pub ready_append : (limit : ℕ) (P Q : Stack) → AllReady limit P → AllReady limit Q → AllReady limit (P ++ Q)

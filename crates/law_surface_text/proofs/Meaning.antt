@@ -1,6 +1,6 @@
 -- WHAT A SYMBOL READS: parts of trees, with their tokens and words; where a symbol goes on with what was before it, what that
 -- becomes.
-use Rattle.std.specs.Prelude.{◌≡◌, ℕ, suc, ◌+◌, ◌<◌, ◌≤◌, ◌⊎◌, Bool, true, false, IsTrue, List, [], ◌∷◌, ◌++◌, map, length, replicate, Option, None, Some, ⊤}
+use Rattle.std.specs.Prelude.{◌≡◌, ℕ, suc, ◌+◌, ◌≤◌, ◌⊎◌, Bool, true, false, IsTrue, List, [], ◌∷◌, ◌++◌, map, length, replicate, Option, Some, ⊤}
 use Rattle.operators.specs.declared.Unary.TheVariants.{Neg}
 use Rattle.source.specs.declared.token.Sign.TheVariants as core_sign
 use Rattle.source.specs.declared.token.Keyword.TheVariants as core_keyword
@@ -9,10 +9,9 @@ use Rattle.source.specs.Tree.{Name, NameAt, Target as ATarget}
 use Rattle.source.specs.Spelled.{IsPlace}
 use Rattle.surface.specs.declared.token.Keyword.TheVariants as keyword
 use Rattle.surface.specs.declared.token.Sign.TheVariants as sign
-use Rattle.surface.specs.declared.word.Word.{Word}
 use Rattle.surface.specs.declared.word.Word.TheVariants as word
-use Rattle.surface.specs.Tree.{Count, Expr, If, Exprs, Body, Tests, Turn as ATurn, Carried as ACarried, Param, Program, names_of}
-use Rattle.surface.specs.Spelled.{Lexeme, Spelling, the_word, the_sign, a_word, a_sign, sign_at, word_at, name_at, name_token, target_token, comma_and}
+use Rattle.surface.specs.Tree.{Count, Expr, Exprs, Body, Tests, Turn as ATurn, Carried as ACarried, Param, Program, names_of}
+use Rattle.surface.specs.Spelled.{Lexeme, Spelling, the_word, the_sign, a_word, a_sign, sign_at, word_at, name_at, name_token, target_token}
 use Rattle.surface.specs.Spelled.{count_token, count_tokens, is_chain, braced, tokens, list_tokens, first_tokens, body_tokens, tests_tokens, turn_tokens}
 use Rattle.surface.specs.Spelled.{carried_tokens, rank_tokens, param_tokens, result_tokens, program_tokens}
 use Rattle.surface.specs.Fits.{level, is_if, count, IsLeast, IsSmall, IsSmallIfWritten, Fits, FitsAll, FitsBody, FitsTests, FitsTurn, FitsCarried, FitsProgram}

@@ -1,37 +1,34 @@
 -- COMPLETE, conditionals and bodies. A step that begins with an `if` is read by symbols of its own, until its last `else` is there.
-use Rattle.std.proofs.Common.{◌≡◌, ℕ, zero, suc, ◌+◌, ◌<◌, ◌≤◌, max, Bool, true, false, List, [], ◌∷◌, ◌++◌, map, length, Option, None, Some, Result, Ok, Err, refl, sym, ap}
+use Rattle.std.proofs.Common.{◌≡◌, ℕ, suc, ◌+◌, ◌≤◌, max, Bool, true, false, List, [], ◌∷◌, ◌++◌, map, Option, None, Some, Result, Ok, Err, refl, sym, ap}
 use Rattle.std.proofs.Common.{◌∙◌, subst, append_assoc, append-nil, arith}
-use Rattle.std.specs.Prelude.{⊤, IsTrue, if◌then◌else◌, nat_le}
+use Rattle.std.specs.Prelude.{⊤, if◌then◌else◌, nat_le}
 use Rattle.std.proofs.lemmas.Bool.{le-leb}
-use Rattle.operators.specs.declared.Unary.TheVariants.{Neg, Not as Inverted}
 use Rattle.source.specs.declared.fault.FaultKind.{FaultKind as CoreFaultKind}
 use Rattle.source.specs.declared.fault.FaultKind.TheVariants.{TooDeep}
 use Rattle.source.specs.declared.token.Keyword.TheVariants as core_keyword
 use Rattle.source.specs.declared.token.Sign.TheVariants as core_sign
 use Rattle.source.specs.declared.word.Word.TheVariants as core_word
-use Rattle.source.specs.Tree.{Name, NameAt, Target as ATarget, Bind, Drop}
+use Rattle.source.specs.Tree.{Target as ATarget, Bind, Drop}
 use Rattle.surface.specs.declared.token.Keyword.TheVariants as keyword
 use Rattle.surface.specs.declared.token.Sign.TheVariants as sign
-use Rattle.surface.specs.declared.word.Word.{Word}
 use Rattle.surface.specs.declared.word.Word.TheVariants as word
-use Rattle.surface.specs.Tree.{Expr, Number, Named, Bracket, Prefix, Infix, And, Or, Not, Fetch, Store, Call, If, Loop, For, Exprs, One, More, Body, Let, Do, When}
+use Rattle.surface.specs.Tree.{Expr, If, Exprs, One, More, Body, Let, Do, When}
 use Rattle.surface.specs.Tree.{Give, Chain, Tests, Last, Else}
-use Rattle.surface.specs.Spelled.{Lexeme, TheWord, TheSign, TheNumber, TheName, Spelling, the_word, the_sign, a_word, a_sign, word_at, is_chain, braced}
+use Rattle.surface.specs.Spelled.{Lexeme, TheWord, TheSign, TheName, Spelling, a_word, a_sign, word_at, is_chain, braced}
 use Rattle.surface.specs.Spelled.{target_token, tokens, list_tokens, body_tokens, tests_tokens}
-use Rattle.surface.specs.Fits.{level, is_if, Fits, FitsBody, FitsTests, depth, list_depth, body_depth, tests_depth}
+use Rattle.surface.specs.Fits.{Fits, FitsBody, FitsTests, depth, list_depth, body_depth, tests_depth}
 use Rattle.surface.specs.Words.{Words, of_core, target_word, words, part_words, body_words, tests_words}
-use Rattle.law_surface_text.specs.declared.symbol.Symbol.{Symbol}
 use Rattle.law_surface_text.specs.declared.symbol.Symbol.TheVariants.{Keyword as OneWord, Emit, Steps, ArmEnd, StepOtherwise, ChainEnd, Target, Targets}
 use Rattle.law_surface_text.specs.declared.symbol.Symbol.TheVariants.{StepEnd, Operand, After, Further, Otherwise}
-use Rattle.law_surface_text.specs.Automaton.{Stack, Outcome, Takes, Passes, Lacks, Refuses, appending, above, Placed, Operator, Joins, AndAlso, OrElse, tested}
-use Rattle.law_surface_text.specs.Automaton.{conditional, operand, steps, step, Moved, moved_after, advance, advance_by, ended_then, semicolon, equals, open_brace}
+use Rattle.law_surface_text.specs.Automaton.{Stack, Outcome, Takes, Passes, Lacks, Refuses, appending, above, Placed, tested}
+use Rattle.law_surface_text.specs.Automaton.{conditional, operand, steps, step, Moved, moved_after, advance, advance_by, ended_then, semicolon, equals}
 use Rattle.law_surface_text.proofs.Meaning.{IsExpr, AreAll, after_commas}
 use Rattle.law_surface_text.proofs.Givens.{stays}
 use Rattle.law_surface_text.proofs.ExplainOperands.{operand_stays, no_chain}
 use Rattle.law_surface_text.proofs.ExplainForms.{commas_are}
-use Rattle.law_surface_text.proofs.Followed.{Stops, Closes, Ends, stops, starting_map}
-use Rattle.law_surface_text.proofs.Reading.{Reads, reading, read_on, Follows, follows_append, Any, Starting, Something, then_none, then_twice, read_on_after}
-use Rattle.law_surface_text.proofs.Reading.{reads_as, reads_none, reads_may, reads_then, reads_upto, reads_from, reads_pass, reads_at, reads_any, reads_sign}
+use Rattle.law_surface_text.proofs.Followed.{Stops, Ends, starting_map}
+use Rattle.law_surface_text.proofs.Reading.{Reads, reading, read_on, Follows, follows_append, Any, Starting, Something, then_twice, read_on_after}
+use Rattle.law_surface_text.proofs.Reading.{reads_as, reads_none, reads_may, reads_then, reads_from, reads_pass, reads_at, reads_any, reads_sign}
 use Rattle.law_surface_text.proofs.Reading.{reads_word, reads_emit, emit_passes, reads_passed, symbol_passes, appending_is}
 use Rattle.law_surface_text.proofs.ReadOperands.{shallow, ExprReads, reads_expr, Parts, reads_list, is_first, is_only}
 use Rattle.law_surface_text.proofs.ReadForms.{BodyReads}

@@ -1,29 +1,27 @@
 -- COMPLETE, loops.
-use Rattle.std.proofs.Common.{◌≡◌, ℕ, zero, suc, ◌+◌, ◌<◌, ◌≤◌, max, Bool, true, false, List, [], ◌∷◌, ◌++◌, length, Option, None, Some, refl, sym, ap, ◌∙◌}
+use Rattle.std.proofs.Common.{◌≡◌, ℕ, suc, ◌+◌, ◌≤◌, max, false, List, [], ◌∷◌, ◌++◌, length, Option, None, Some, refl, sym, ap}
 use Rattle.std.proofs.Common.{append_assoc, append-nil, arith}
 use Rattle.std.specs.Prelude.{⊤}
 use Rattle.source.specs.declared.token.Keyword.TheVariants as core_keyword
 use Rattle.source.specs.declared.token.Sign.TheVariants as core_sign
 use Rattle.source.specs.declared.word.Word.TheVariants as core_word
-use Rattle.source.specs.Tree.{Name, NameAt}
+use Rattle.source.specs.Tree.{NameAt}
 use Rattle.surface.specs.declared.token.Keyword.TheVariants as keyword
 use Rattle.surface.specs.declared.token.Sign.TheVariants as sign
-use Rattle.surface.specs.declared.word.Word.{Word}
 use Rattle.surface.specs.declared.word.Word.TheVariants as word
 use Rattle.surface.specs.Tree.{Count, Written, Constant, Expr, Loop, For, Exprs, One, More, Body, Turn as ATurn, Before, After as TestLast}
 use Rattle.surface.specs.Tree.{Carried as ACarried, Nothing, With, names_of}
-use Rattle.surface.specs.Spelled.{Lexeme, TheWord, TheSign, TheNumber, TheName, Spelling, the_word, the_sign, a_word, a_sign, word_at, name_token, count_token}
-use Rattle.surface.specs.Spelled.{count_tokens, tokens, list_tokens, first_tokens, body_tokens, turn_tokens, carried_tokens}
-use Rattle.surface.specs.Fits.{level, count, Fits, FitsBody, FitsTurn, FitsCarried, IsSmall, IsSmallIfWritten, depth, list_depth, body_depth, turn_depth, carried_depth}
-use Rattle.surface.specs.Words.{Words, of_core, bound_word, bound_words, end_loop, words, part_words, first_words, body_words, turn_words, carried_words}
+use Rattle.surface.specs.Spelled.{TheWord, TheSign, TheNumber, TheName, Spelling, the_word, the_sign, a_word, a_sign, word_at, name_token, count_token}
+use Rattle.surface.specs.Spelled.{count_tokens, tokens, first_tokens, body_tokens, turn_tokens, carried_tokens}
+use Rattle.surface.specs.Fits.{count, FitsBody, FitsTurn, FitsCarried, IsSmallIfWritten, depth, list_depth, body_depth, turn_depth, carried_depth}
+use Rattle.surface.specs.Words.{Words, of_core, bound_word, bound_words, end_loop, words, first_words, body_words, turn_words, carried_words}
 use Rattle.law_surface_text.specs.declared.symbol.NameWord.TheVariants as naming
-use Rattle.law_surface_text.specs.declared.symbol.Symbol.{Symbol}
 use Rattle.law_surface_text.specs.declared.symbol.Symbol.TheVariants.{Emit, Name as OneName, Steps, Operand, After, Bound, Starts, Turn, ForBound}
 use Rattle.law_surface_text.specs.declared.symbol.Symbol.TheVariants.{AfterForName, Range, Carried}
-use Rattle.law_surface_text.specs.Automaton.{Stack, Takes, Passes, Placed, step, first_of, loop_rest, range_rest, open_paren, close_paren, open_brace}
+use Rattle.law_surface_text.specs.Automaton.{Stack, Passes, Placed, step, first_of, loop_rest, range_rest, open_paren, close_paren, open_brace}
 use Rattle.law_surface_text.specs.declared.symbol.Symbol.TheVariants.{Keyword as OneWord}
 use Rattle.law_surface_text.proofs.Meaning.{IsExpr, AreAll}
-use Rattle.law_surface_text.proofs.Followed.{Stops, Closes, Ends, starting_map, starts_pass}
+use Rattle.law_surface_text.proofs.Followed.{Stops, Ends, starting_map, starts_pass}
 use Rattle.law_surface_text.proofs.Reading.{Reads, reading, Any, Starting, reads_as, reads_none, reads_then, reads_upto, reads_pass, reads_at, reads_any}
 use Rattle.law_surface_text.proofs.Reading.{reads_sign, reads_word, reads_emit, emit_passes, reads_passed, symbol_passes}
 use Rattle.law_surface_text.proofs.ReadOperands.{shallow, small_is, ExprReads, expr_ends, reads_expr, ending, is_first, are_others, is_only, at_least_one}

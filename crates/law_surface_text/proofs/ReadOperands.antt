@@ -1,36 +1,33 @@
 -- COMPLETE, operands: the automaton reads the tokens of a fitting expression, and appends its words. The parts of the expression
 -- are hypotheses here.
-use Rattle.std.proofs.Common.{◌≡◌, ℕ, zero, suc, ◌+◌, ◌<◌, ◌≤◌, max, Bool, true, false, List, [], ◌∷◌, ◌++◌, length, Option, None, Some, refl, sym, ap, ◌∙◌}
+use Rattle.std.proofs.Common.{◌≡◌, ℕ, zero, suc, ◌+◌, ◌<◌, ◌≤◌, max, Bool, true, false, List, [], ◌∷◌, ◌++◌, Option, Some, refl, sym, ap, ◌∙◌}
 use Rattle.std.proofs.Common.{subst, append_assoc, append-nil, arith, inl, inr}
-use Rattle.std.specs.Prelude.{◌^◌, ◌⊎◌, nat_le, if◌then◌else◌}
+use Rattle.std.specs.Prelude.{◌^◌, ◌⊎◌, if◌then◌else◌}
 use Rattle.std.proofs.lemmas.Bool.{le-leb, lt-ltb}
 use Rattle.std.proofs.Math.Nat.{le-max_left, le-max_right}
-use Rattle.operators.specs.declared.Unary.{Unary}
 use Rattle.operators.specs.declared.Unary.TheVariants.{Neg, Not as Inverted}
 use Rattle.source.specs.declared.token.Keyword.TheVariants as core_keyword
 use Rattle.source.specs.declared.token.Sign.TheVariants as core_sign
 use Rattle.source.specs.declared.word.Word.TheVariants as core_word
 use Rattle.source.specs.Tree.{Name}
-use Rattle.source.specs.Spelled.{IsPlace, prefix_sign}
 use Rattle.surface.specs.declared.token.Keyword.TheVariants as keyword
 use Rattle.surface.specs.declared.token.Sign.TheVariants as sign
 use Rattle.surface.specs.declared.word.Word.{Word}
 use Rattle.surface.specs.declared.word.Word.TheVariants as word
-use Rattle.surface.specs.Tree.{Expr, Number, Named, Bracket, Prefix, Infix, And, Or, Not, Fetch, Store, Call, If, Loop, For, Exprs, One, More}
-use Rattle.surface.specs.Spelled.{Lexeme, TheWord, TheSign, TheNumber, TheName, Spelling, the_sign, a_sign, a_word, sign_at, number_at, name_at, tokens, list_tokens}
+use Rattle.surface.specs.Tree.{Expr, Number, Named, Bracket, Prefix, Infix, And, Or, Not, Fetch, Store, Call, Exprs, One, More}
+use Rattle.surface.specs.Spelled.{Lexeme, TheWord, TheSign, TheNumber, TheName, Spelling, a_sign, sign_at, name_at, tokens, list_tokens}
 use Rattle.surface.specs.Fits.{level, Fits, IsLeast, depth, list_depth, prefix_depth}
 use Rattle.surface.specs.Words.{Words, of_core, words, part_words, index_words}
-use Rattle.law_surface_text.specs.declared.symbol.Symbol.{Symbol}
-use Rattle.law_surface_text.specs.declared.symbol.Symbol.TheVariants.{Sign as OneSign, Emit, Operand, Negated, After, AfterName, AfterIndexes, Callee, Further}
+use Rattle.law_surface_text.specs.declared.symbol.Symbol.TheVariants.{Emit, Operand, Negated, After, AfterName, AfterIndexes, Callee, Further}
 use Rattle.law_surface_text.specs.declared.symbol.Symbol.TheVariants.{Indexes}
-use Rattle.law_surface_text.specs.Automaton.{Stack, Outcome, Takes, Refuses, Passes, Placed, Operator, Joins, AndAlso, OrElse, operator_level, operand_level}
+use Rattle.law_surface_text.specs.Automaton.{Stack, Outcome, Takes, Refuses, Passes, Placed, Operator, Joins, operator_level, operand_level}
 use Rattle.law_surface_text.specs.Automaton.{ended_then, between, joined, small, operand, negated, step, advance, advance_by, close_bracket, close_paren, open_paren}
 use Rattle.law_surface_text.proofs.Meaning.{IsExpr, AreAll}
-use Rattle.law_surface_text.proofs.ExplainOperands.{operator_lexeme, join, join_tokens, join_words, join_level, join_depth, level_most}
+use Rattle.law_surface_text.proofs.ExplainOperands.{operator_lexeme, level_most}
 use Rattle.law_surface_text.proofs.Followed.{Stops, Closes, Ends, stops, stops_more, starting_map, operator_stops, level_below, none_at_three, after_takes}
 use Rattle.law_surface_text.proofs.Followed.{pass_after, pass_end, pass_name, pass_indexes, further_passes, indexes_pass, least_level}
-use Rattle.law_surface_text.proofs.Reading.{Reads, reading, read_on, Follows, Any, Starting, Something, then_none, reads_as, reads_none, reads_may, reads_then}
-use Rattle.law_surface_text.proofs.Reading.{reads_upto, reads_from, reads_pass, reads_cons, reads_at, reads_any, reads_sign, reads_emit, emit_passes, reads_passed}
+use Rattle.law_surface_text.proofs.Reading.{Reads, reading, read_on, Follows, Starting, then_none, reads_as, reads_none}
+use Rattle.law_surface_text.proofs.Reading.{reads_upto, reads_from, reads_pass, reads_at, reads_any, reads_sign, reads_emit, emit_passes}
 use Rattle.law_surface_text.proofs.Reading.{symbol_passes}
 
 -- what is shallow enough where an operand of it is

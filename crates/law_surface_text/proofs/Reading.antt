@@ -1,16 +1,16 @@
 -- HOW TOKENS ARE READ, one after the other: what a stack makes of all the tokens that are left, whatever follows those of a tree.
 use Rattle.std.proofs.Common.{◌≡◌, ℕ, ◌≤◌, Bool, true, false, List, [], ◌∷◌, ◌++◌, Option, None, Some, Result, Ok, Err, refl, sym, ap, ◌∙◌, subst, append_assoc}
-use Rattle.std.proofs.Common.{append-nil, arith, if◌then◌else◌}
+use Rattle.std.proofs.Common.{arith, if◌then◌else◌}
 use Rattle.std.specs.Prelude.{⊤, nat_le}
 use Rattle.std.proofs.lemmas.Bool.{le-leb}
 use Rattle.source.specs.declared.fault.FaultKind.{FaultKind as CoreFaultKind}
-use Rattle.source.specs.declared.fault.FaultKind.TheVariants.{TooDeep, Unexpected}
+use Rattle.source.specs.declared.fault.FaultKind.TheVariants.{TooDeep}
 use Rattle.source.specs.declared.token.Keyword.{Keyword as CoreKeyword}
 use Rattle.source.specs.Spelled.{IsPlace}
 use Rattle.source.specs.Tree.{Name}
 use Rattle.surface.specs.declared.token.Sign.{Sign}
 use Rattle.surface.specs.declared.word.Word.{Word}
-use Rattle.surface.specs.Spelled.{Lexeme, TheWord, TheSign, Spelling, the_sign, a_word}
+use Rattle.surface.specs.Spelled.{Lexeme, TheSign, Spelling, the_sign, a_word}
 use Rattle.surface.specs.Words.{Words}
 use Rattle.law_surface_text.specs.declared.symbol.Symbol.{Symbol}
 use Rattle.law_surface_text.specs.declared.symbol.Symbol.TheVariants.{Sign as OneSign, Keyword as OneWord, Emit}

@@ -1,5 +1,5 @@
 -- THE WORDS DETERMINE THE TREE, so no two fitting programs have the same tokens at the same places.
-use Rattle.std.proofs.Common.{◌≡◌, ℕ, zero, suc, ◌<◌, Bool, List, [], ◌∷◌, ◌++◌, map, length, Option, None, Some, refl, sym, ap, ◌∙◌, append_assoc, append-nil}
+use Rattle.std.proofs.Common.{◌≡◌, ℕ, zero, suc, Bool, List, [], ◌∷◌, ◌++◌, map, length, Option, None, Some, refl, sym, ap, ◌∙◌, append_assoc, append-nil}
 use Rattle.std.proofs.Common.{arith, inl, inr, true, false}
 use Rattle.std.specs.Prelude.{◌⊎◌}
 use Rattle.operators.specs.declared.Unary.{Unary}

@@ -1,19 +1,17 @@
 -- RUNS OF THE AUTOMATON: what was read, and what a run ends with.
-use Rattle.std.proofs.Common.{◌≡◌, ℕ, ◌≤◌, Bool, true, false, List, [], ◌∷◌, ◌++◌, map, Option, None, Some, Result, Ok, Err, refl, sym, ap, subst, append_assoc}
-use Rattle.std.proofs.Common.{append-nil, if◌then◌else◌}
+use Rattle.std.proofs.Common.{◌≡◌, ℕ, Bool, true, false, List, [], ◌∷◌, ◌++◌, map, Option, None, Some, Result, Ok, Err, refl, ap, subst, append_assoc}
+use Rattle.std.proofs.Common.{if◌then◌else◌}
 use Rattle.std.specs.Prelude.{⊤, nat_le}
 use Rattle.std.proofs.lemmas.Bool.{leb-true}
 use Rattle.source.specs.declared.fault.FaultKind.{FaultKind as CoreFaultKind}
 use Rattle.source.specs.declared.fault.FaultKind.TheVariants.{Unended, TooDeep}
 use Rattle.source.specs.Spelled.{IsPlace}
-use Rattle.source.specs.Tree.{Name}
 use Rattle.surface.specs.declared.fault.Fault.{Fault}
 use Rattle.surface.specs.declared.fault.FaultKind.TheVariants.{Core}
 use Rattle.surface.specs.declared.token.Token.{Token}
 use Rattle.surface.specs.Spelled.{Lexeme, Spelling, AreSpelled}
 use Rattle.surface.specs.Words.{Words}
-use Rattle.law_surface_text.specs.declared.symbol.Symbol.{Symbol}
-use Rattle.law_surface_text.specs.Automaton.{Stack, Outcome, Takes, Passes, Lacks, Refuses, step_below, Placed, placed, Moved, moved_after, advance_by, advance}
+use Rattle.law_surface_text.specs.Automaton.{Stack, Outcome, Takes, Passes, Lacks, Refuses, Placed, placed, Moved, moved_after, advance_by, advance}
 use Rattle.law_surface_text.specs.Automaton.{blamed, finish, words_after, finished, run_on, run}
 use Rattle.law_surface_text.specs.Ready.{AllReady}
 use Rattle.law_surface_text.proofs.Meaning.{Sort, Is, Given, meaning_below, Explains, takes, passes, lacks}

@@ -1,7 +1,7 @@
 -- SOUND: what the automaton reads are the tokens of a fitting program, and what it appends are that program's words. What
 -- it has read at any time goes on to such a program.
-use Rattle.std.proofs.Common.{◌≡◌, ℕ, zero, suc, ◌+◌, ◌≤◌, Bool, true, false, List, [], ◌∷◌, ◌++◌, map, length, Option, None, Some, Result, Ok, Err, refl, sym}
-use Rattle.std.proofs.Common.{ap, ◌∙◌, subst, append_assoc, append-nil, arith}
+use Rattle.std.proofs.Common.{◌≡◌, ℕ, zero, suc, ◌+◌, ◌≤◌, Bool, false, List, [], ◌∷◌, ◌++◌, map, length, Option, None, Some, Result, Ok, Err, refl, sym}
+use Rattle.std.proofs.Common.{ap, ◌∙◌, subst, append-nil, arith}
 use Rattle.std.specs.Prelude.{⊤}
 use Rattle.lemmas.proofs.Lists.{map_append}
 use Rattle.source.specs.declared.token.Keyword.TheVariants as core_keyword
@@ -24,7 +24,7 @@ use Rattle.law_surface_text.specs.declared.symbol.Symbol.TheVariants.{AfterIndex
 use Rattle.law_surface_text.specs.declared.symbol.Symbol.TheVariants.{AfterForName, Range, Carried}
 use Rattle.law_surface_text.specs.Automaton.{Stack, Takes, Passes, step, Placed, placed, Moved, ended_then, finish, parsed}
 use Rattle.law_surface_text.specs.Ready.{Ready, AllReady}
-use Rattle.law_surface_text.proofs.Meaning.{Sort, IsExpr, Ops, Bodies, Carries, Ranges, Is, Given, meaning, Explains, takes, passes}
+use Rattle.law_surface_text.proofs.Meaning.{Sort, Ops, Bodies, Ranges, Is, Given, meaning, Explains, takes, passes}
 use Rattle.law_surface_text.proofs.ExplainOperands.{behind_else}
 use Rattle.law_surface_text.proofs.ExplainItems.{each_explained}
 use Rattle.law_surface_text.proofs.Runs.{Spells, are_spelled, advance_all, Ran, whole, ran, AdvancedAll, moved_all, advanced_all}
@@ -150,9 +150,10 @@ module _ (limit : ℕ) where
     ends = refl;
   }
   complete (Starts d) r = by_none (explained (Starts d) 0 semicolon r)
-  complete (Turn d) r = by_token (explained (Turn d) 0 (TheWord (keyword.Core core_keyword.While)) r) (omega arith)
-      (record { part = zero_operand 0 (d + 1) (omega arith) r; ends = refl },
-      (record { part = tt; ends = refl }, (record { part = tt; ends = refl }, (record { part = zero_body d r; ends = refl }, tt))))
+  complete (Turn d) r = by_token (explained (Turn d) 0 (TheWord (keyword.Core core_keyword.While)) r) (omega arith) (
+    record { part = zero_operand 0 (d + 1) (omega arith) r; ends = refl },
+    (record { part = tt; ends = refl }, (record { part = tt; ends = refl }, (record { part = zero_body d r; ends = refl }, tt))),
+  )
   complete (ForBound d) r =
       record { part = record { bound = record { n = None; small = tt }; i = record { at = 0; name = [] }; range = zero_range d r }; ends = refl }
   complete (AfterForName named x d) r = by_token (explained (AfterForName named x d) 0 (TheName []) r) (omega arith)
