@@ -5,7 +5,7 @@ use files::{Unread, read_bytes};
 use hints::explain;
 use process::{Folder, run_program};
 use std::alloc::{AllocError, Global};
-use std::io::{self, Write};
+use std::io::{self, ErrorKind, Write};
 use std::str;
 use std::sync::Wait;
 use std::thread::Threads;
@@ -26,7 +26,7 @@ pub struct Case {
     outcome: Vec<u8>,
 }
 
-/// The only file that there is, by whatever name.
+/// The only file that there is, by whatever name, unless it is empty.
 struct OneFile<'a> {
     bytes: &'a [u8],
 }
@@ -37,6 +37,9 @@ impl Folder for OneFile<'_> {
     ghost has = { λ name bytes. ⊤ };
 
     fn read_file(&self, alloc: Global, _name: &str) -> Result<Vec<u8>, Unread> {
+        if self.bytes.is_empty() {
+            return Err(Unread::of(ErrorKind::NotFound));
+        }
         let mut reader = self.bytes;
         read_bytes(alloc, &mut reader)
     }
