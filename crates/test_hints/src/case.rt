@@ -27,6 +27,7 @@ pub struct Case {
 }
 
 /// The only file that there is, by whatever name, unless it is empty.
+#[derive(Clone, Copy)]
 struct OneFile<'a> {
     bytes: &'a [u8],
 }
