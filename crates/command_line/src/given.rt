@@ -28,6 +28,14 @@ impl<'a> Model for FileName<'a> {
     ghost view = { λ n. n.text.now };
 }
 
+impl<'a> FileName<'a> {
+    pub fn as_str(&self) -> &'a str
+        ensures { result.now ≡ self.now }
+    {
+        self.text
+    }
+}
+
 /// What is to be done with a file.
 #[derive(Drop)]
 pub struct FileRequest<'a> {

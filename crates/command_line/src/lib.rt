@@ -4,7 +4,6 @@
 ghost use Rattle.std.specs.Prelude.{◌≡◌, map};
 ghost use Rattle.command_line.specs.Words.{after_end, asked, asked_of, command_named, ended, help_asked, no_command_asked, no_inputs, nothing};
 ghost use Rattle.command_line.specs.Words.{topic_named, version_line, with_inputs};
-
 ghost use Rattle.command_line.specs.Files.{command_word};
 
 mod given;

@@ -383,7 +383,12 @@ pub fn print_exec<
 }
 
 /// Prints what the words of the command line ask for, of all that the reader has.
-pub(crate) fn answer<R: Threads + Wait + Sync, A: Allocator + Clone + Send + Sync, G: Gate + Sync, W: Write>(
+pub(crate) fn answer<
+    R: Threads + Wait + Sync,
+    A: Allocator + Clone + Send + Sync,
+    G: Gate + Sync,
+    W: Write,
+>(
     request: &Request,
     input: &[u8],
     writer: &mut W,

@@ -75,11 +75,7 @@ pub fn input_fault(input: &[u8], number: u64) -> Found<'_> {
 
 /// The cause for input `number` of the words after a command, which is the first that is not an integer. `has_file` says whether
 /// they name a file.
-pub fn given_fault<'a, S: AsStr>(
-    words: &'a [S],
-    number: u64,
-    has_file: bool,
-) -> Option<Found<'a>> {
+pub fn given_fault<'a, S: AsStr>(words: &'a [S], number: u64, has_file: bool) -> Option<Found<'a>> {
     let input = match has_file {
         true => plain_at(words, number)?.as_bytes(),
         false => first_of(Sought::Input, words)?.as_bytes(),

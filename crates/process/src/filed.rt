@@ -18,6 +18,7 @@ use commands::filed::input_of;
 use commands::serving::arguments_of;
 use driver::resources::Resources;
 use files::{Unread, send_unread};
+use outcomes::Refusal;
 use rounds::Open;
 use std::alloc::Global;
 use std::convert::AsStr;
@@ -38,13 +39,23 @@ fn run_unread<I, W: Write, E: Write>(
 ) -> Ended<I, W>
     ensures { EndsUnread file.now (W.contents writer) (W.contents result.writer) (E.contents errors.old) (E.contents errors.new) result.outcome result.status }
 {
-    let _is_told = send_unread(errors, file.name.text, unread).is_ok();
+    let _is_told = send_unread(errors, file.name.as_str(), unread).is_ok();
     Ended {
         outcome: None,
         status: UNREAD,
         hint_sent: HintSent::Nothing,
         reader,
         writer,
+    }
+}
+
+/// What the command read of the file with these bytes; where that is nothing, the file.
+fn shown_of<'a>(input: &'a Result<Vec<u8>, Refusal>, bytes: &'a [u8]) -> &'a [u8]
+    ensures { MatchResult input.now (λ v. result.now ≡ v.items) (λ _. result.now ≡ bytes.now) }
+{
+    match input {
+        Ok(input) => input.as_slice(),
+        Err(_refusal) => bytes,
     }
 }
 
@@ -70,10 +81,7 @@ fn run_read<X: Explain, S: AsStr, I: Drop, W: Write + Drop, E: Write, R: Threads
     let input = input_of(&alloc, bytes, &file.request, &file.inputs);
     let outcome = answer_read(&file.request, &input, &mut writer, resources);
     let (writer, _unwritten) = writer.into_parts();
-    let shown = match &input {
-        Ok(input) => input.as_slice(),
-        Err(_refusal) => bytes,
-    };
+    let shown = shown_of(&input, bytes);
     let hint_sent = send_hint(explainer, alloc, words, Some(shown), outcome, errors);
     Ok(Ended {
         outcome,
@@ -110,7 +118,7 @@ fn run_file<
         (λ e. (error_kind e ≡ ErrorKind.OutOfMemory) × Keeps (E.contents errors.old) (E.contents errors.new)) }
 {
     let mut reader = reader;
-    match read_named(folder, &mut reader, resources.alloc, file.name.text) {
+    match read_named(folder, &mut reader, resources.alloc, file.name.as_str()) {
         Ok(bytes) => run_read(
             words, file, &bytes, reader, writer, errors, explainer, resources,
         ),

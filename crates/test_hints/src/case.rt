@@ -2,9 +2,10 @@
 
 use crate::given::outcome_of;
 use hints::explain;
-use process::run_process;
+use process::{SystemFiles, run_program};
 use std::alloc::{AllocError, Global};
 use std::io::{self, Write};
+use std::rt::Files;
 use std::str;
 use std::sync::Wait;
 use std::thread::Threads;
@@ -110,7 +111,7 @@ impl Case {
     }
 
     /// Runs a command line, and writes what was reported. Gives the exit status, if it was run.
-    fn write_out<R: Threads + Wait + Sync, W: Write>(
+    fn write_out<R: Files + Threads + Wait + Sync, W: Write>(
         &self,
         rt: &R,
         line: &[u8],
@@ -124,14 +125,15 @@ impl Case {
         let mut errors = Vec::new(self.alloc);
         let output = Vec::new(self.alloc);
         let input = self.input.as_slice();
-        let ended = run_process(&words, input, output, &mut errors, self.alloc, rt)?;
+        let folder = SystemFiles { rt };
+        let ended = run_program(&words, input, output, &mut errors, &folder, self.alloc, rt)?;
         self.show(&ended.writer, &errors, out)?;
         Ok(Some(ended.status))
     }
 
     /// Runs each command line of the case, and writes what was reported: once for all that follow one another and have the
     /// same report.
-    pub fn try_out<R: Threads + Wait + Sync, W: Write>(
+    pub fn try_out<R: Files + Threads + Wait + Sync, W: Write>(
         &self,
         rt: &R,
         out: &mut W,

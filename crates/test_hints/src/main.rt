@@ -10,7 +10,7 @@
 //! - `# WORDS` is a comment.
 //!
 //! In a line or a piece `%` is the number (in a line 0), and `\HH` the byte that these two hexadecimal digits are. Each command
-//! line is run as a process (`process::run_process`), with the case's input as standard input. Of it the program writes the
+//! line is run as a process (`process::run_program`), with the case's input as standard input. Of it the program writes the
 //! words with `: ` and the exit status after them, the line of standard output that says what happened, and what standard error
 //! has, which is the hint. The last two are written once for all command lines of a case that follow one another and have the
 //! same report, of which all but the first have `&`. Where the table gives the output nothing is run, so there is no status.
