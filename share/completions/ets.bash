@@ -68,13 +68,19 @@ _ets() {
         return
     fi
 
-    # The options that were not given yet. After `--` there are only inputs.
+    # A word that begins no option may be the name of a file. After `--` there are only that and inputs.
+    if [[ $cur != -* || " ${words[*]} " == *" -- "* ]]; then
+        compopt -o filenames 2>/dev/null
+        mapfile -t COMPREPLY < <(compgen -f -- "$cur")
+    fi
+
+    # The options that were not given yet.
     [[ " ${words[*]} " == *" -- "* ]] && return
     local option options=
     for option in $(_ets_options "$command"); do
         [[ " ${words[*]} " == *" $option "* ]] || options+=" $option"
     done
-    mapfile -t COMPREPLY < <(compgen -W "$options -h --help" -- "$cur")
+    mapfile -t -O "${#COMPREPLY[@]}" COMPREPLY < <(compgen -W "$options -h --help" -- "$cur")
 }
 
 complete -F _ets ets

@@ -30,8 +30,8 @@ function __ets_helps
     test (count $words) -eq 2; and test $words[2] = help
 end
 
-# Nothing names a file: standard input and output are redirected, and there fish has its own files.
-complete -c ets -f
+# Before a command, and after `help`, nothing names a file; after another command a word may.
+complete -c ets -n '__ets_begins; or __ets_is help' -f
 
 set -l begins '__ets_begins; or __ets_helps'
 complete -c ets -n $begins -a lower -d 'lowers a program to a graph'

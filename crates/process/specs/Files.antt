@@ -57,7 +57,7 @@ pub record EndsOver (accounts : Account) (words : List (List ℕ)) (file : FileR
 pub record EndsRead (accounts : Account) (has : Folder) (words : List (List ℕ)) (file : FileRequest) (remaining old new silent spoken : Option (List ℕ))
     (outcome : Option Outcome) (status : ℕ) (hint_sent : HintSent) : Type 0 where
   pub bytes : List ℕ
-  pub has : Has has remaining file.name bytes
+  pub named : Has has remaining file.name bytes
   pub few : length bytes ≤ 67108864
   pub over : EndsOver accounts words file bytes old new silent spoken outcome status hint_sent
 

@@ -13,11 +13,12 @@ use crate::explaining::{Explain, Hints};
 use crate::folder::{Folder, read_named};
 use crate::sending::{HintSent, send_hint};
 use crate::{Ended, exit_status, run_explained};
-use command_line::{FileRequest, Given, Request, read_given};
+use command_line::{FileName, FileRequest, Given, Request, read_given};
 use commands::filed::input_of;
 use commands::serving::arguments_of;
 use driver::resources::Resources;
 use files::{Content, Reads, Unread, content_of, reads_of, send_unread};
+use outcomes::Refusal;
 use rounds::Open;
 use std::alloc::Global;
 use std::convert::AsStr;
@@ -27,6 +28,13 @@ use std::thread::Threads;
 
 /// The exit status where a file cannot be read.
 const UNREAD: u8 = 1;
+
+/// The name of a file, as text.
+fn text_of<'a>(name: &FileName<'a>) -> &'a str
+    ensures { result.now ≡ name.now }
+{
+    name.text
+}
 
 /// Says that the file cannot be read.
 fn run_unread<I, W: Write, E: Write>(
@@ -38,7 +46,7 @@ fn run_unread<I, W: Write, E: Write>(
 ) -> Ended<I, W>
     ensures { EndsUnread file.now (W.contents writer) (W.contents result.writer) (E.contents errors.old) (E.contents errors.new) result.outcome result.status }
 {
-    let _is_told = send_unread(errors, file.name.text, unread).is_ok();
+    let _is_told = send_unread(errors, text_of(&file.name), unread).is_ok();
     Ended {
         outcome: None,
         status: UNREAD,
@@ -53,6 +61,16 @@ fn program_in<'a>(bytes: &'a [u8], request: &Request) -> Option<&'a [u8]> {
     match (content_of(bytes), reads_of(request)) {
         (Content::Program, Reads::Inputs | Reads::Graph) => Some(bytes),
         _ => None,
+    }
+}
+
+/// What the command read of the file with these bytes; where that is nothing, the file.
+fn shown_of<'a>(input: &'a Result<Vec<u8>, Refusal>, bytes: &'a [u8]) -> &'a [u8]
+    ensures { MatchResult input.now (λ v. result.now ≡ v.items) (λ _. result.now ≡ bytes.now) }
+{
+    match input {
+        Ok(input) => input.as_slice(),
+        Err(_refusal) => bytes,
     }
 }
 
@@ -78,10 +96,8 @@ fn run_read<X: Explain, S: AsStr, I: Drop, W: Write + Drop, E: Write, R: Threads
     let input = input_of(&alloc, bytes, &file.request, &file.inputs);
     let outcome = answer_read(&file.request, &input, &mut writer, resources);
     let (writer, _unwritten) = writer.into_parts();
-    let (program, shown) = match &input {
-        Ok(input) => (program_in(bytes, &file.request), input.as_slice()),
-        Err(_refusal) => (None, bytes),
-    };
+    let program = program_in(bytes, &file.request);
+    let shown = shown_of(&input, bytes);
     let hint_sent = send_hint(
         explainer,
         alloc,
@@ -126,7 +142,7 @@ fn run_file<
         (λ e. (error_kind e ≡ ErrorKind.OutOfMemory) × Keeps (E.contents errors.old) (E.contents errors.new)) }
 {
     let mut reader = reader;
-    match read_named(folder, &mut reader, resources.alloc, file.name.text) {
+    match read_named(folder, &mut reader, resources.alloc, text_of(&file.name)) {
         Ok(bytes) => run_read(
             words, file, &bytes, reader, writer, errors, explainer, resources,
         ),

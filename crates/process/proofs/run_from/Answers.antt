@@ -1,14 +1,8 @@
-use Rattle.std.proofs.Common.{◌≡◌, ℕ, List, [], map, drop, ap, sym, ◌∙◌}
-use Rattle.std.specs.Prelude.{Option}
+use Rattle.std.proofs.Common.{map, drop, ap, sym}
 use Rattle.std.specs.Io.Buffered.{writer_contents, writer_inner}
-use Rattle.std.specs.Io.KnownBytes.{append_known}
 use Rattle.process.proofs.Explained.{answers_of, reads_of, explained_run}
-use Rattle.process.proofs.Flushed.{nothing_more}
+use Rattle.process.proofs.Flushed.{begins}
 use Rattle.process.proofs.run_from.Goals as goal
-
--- the bytes of a new buffered writer are those of the writer inside
-begins : (known held : Option (List ℕ)) (buffer : List ℕ) → known ≡ held → buffer ≡ [] → append_known known buffer ≡ held
-begins known held buffer same empty = ap (λ b. append_known known b) empty ∙ (nothing_more known ∙ same)
 
 pub returns : goal.returns
 returns g c =
