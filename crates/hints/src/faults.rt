@@ -5,10 +5,13 @@ use crate::lines::{is, line_at, text_at};
 use crate::message::Found;
 use crate::sources::{Node, Source, name_at};
 use outcomes::MadeFault;
-use tags::value::{FaultKind, Origin};
+use tags::value::FaultKind;
 
 /// The most arrays of a graph.
 const ARRAYS: u64 = 64;
+
+/// How many codes of origins there are for each block.
+const NODES: u32 = 1_024;
 
 /// The cells of the array with this name, where the graph has one.
 fn cells_of(graph: &[u8], name: &str) -> Option<u64> {
@@ -71,7 +74,7 @@ fn placed_or_elsewhere<'a>(found: Option<Found<'a>>, kind: FaultKind, node: Node
 
 /// What is said of this fault in a run of what this source says.
 pub fn found_fault<'a>(source: Option<Source<'_, 'a>>, fault: MadeFault) -> Found<'a> {
-    let Origin::At { block, node } = fault.origin else {
+    let Some(code) = fault.origin.checked_sub(1) else {
         let cause = match source {
             Some(_) => "fault-untold",
             None => "fault-untold-code",
@@ -79,8 +82,8 @@ pub fn found_fault<'a>(source: Option<Source<'_, 'a>>, fault: MadeFault) -> Foun
         return Found::of(Some(cause_of(fault.kind)), cause, [""; 2], [b""; 3], [0; 6]);
     };
     let node = Node {
-        block: u64::from(block),
-        node: u64::from(node.get()),
+        block: u64::from(code / NODES),
+        node: u64::from(code % NODES),
     };
     placed_or_elsewhere(placed(source, fault.kind, node), fault.kind, node)
 }

@@ -71,7 +71,7 @@ fn other_input(input: &[u8], command: &str) -> Option<Text> {
 }
 
 /// Why this input, which `command` reads, was refused.
-fn of_input<'a>(case: &Case<'_, 'a>, command: &'a str, refusal: Refusal) -> Option<Found<'a>> {
+fn of_input<'a>(case: &Case<'_, '_, 'a>, command: &'a str, refusal: Refusal) -> Option<Found<'a>> {
     let input = case.input?;
     if let Some(cause) = other_input(input, command) {
         let line = line_at(input, 1);
@@ -101,7 +101,7 @@ fn of_input<'a>(case: &Case<'_, 'a>, command: &'a str, refusal: Refusal) -> Opti
 
 /// Why the request of these words was refused. `None` where the place cannot be found, or the input was not kept.
 fn placed<'a, S: AsStr>(
-    case: &Case<'_, 'a>,
+    case: &Case<'_, '_, 'a>,
     words: &'a [S],
     refusal: Refusal,
 ) -> Option<Found<'a>> {

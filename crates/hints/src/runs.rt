@@ -44,18 +44,18 @@ const RULES: [Text; 6] = [
 
 /// What was asked for, and the input that was read for it, if that was kept.
 #[derive(Clone, Copy)]
-pub struct Case<'r, 'a> {
+pub struct Case<'r, 'p, 'a> {
     pub request: &'r Request,
     pub input: Option<&'a [u8]>,
     /// The program that the graph of the input was made of, if that is known.
-    pub program: Option<Program<'r, 'a>>,
+    pub program: Option<Program<'p, 'a>>,
     /// Where the words name a file: the inputs after its name that take the place of those in the file.
     pub inputs: Option<&'r Inputs>,
 }
 
-impl<'r, 'a> Case<'r, 'a> {
+impl<'r, 'p, 'a> Case<'r, 'p, 'a> {
     /// The graph that was run, where it was kept.
-    pub fn source(&self) -> Option<Source<'r, 'a>> {
+    pub fn source(&self) -> Option<Source<'p, 'a>> {
         if is_of_object(self.request) {
             return None;
         }
@@ -106,7 +106,7 @@ pub fn given_fault<'a, S: AsStr>(words: &'a [S], number: u64, has_file: bool) ->
 }
 
 /// The cause for a run of this graph that was given another number of inputs than main has: those of the command line, or those after the graph.
-fn inputs_fault<'a>(case: &Case<'_, 'a>, input: &'a [u8]) -> Option<Found<'a>> {
+fn inputs_fault<'a>(case: &Case<'_, '_, 'a>, input: &'a [u8]) -> Option<Found<'a>> {
     let (text, lines) = split_graph(input);
     let name = text_at(line_at(text, last_line(text)), 1);
     let wants = Block::of(text, Some(name), 0)?.inputs;
@@ -199,7 +199,7 @@ fn option_fault<'a>(request: &Request) -> Option<Found<'a>> {
 }
 
 /// Why a run of this case does not start. `None` where that is not known, as where the input was not kept.
-pub fn start_fault<'a>(case: &Case<'_, 'a>, fault: StartFault) -> Option<Found<'a>> {
+pub fn start_fault<'a>(case: &Case<'_, '_, 'a>, fault: StartFault) -> Option<Found<'a>> {
     match fault {
         StartFault::Memory => return None,
         StartFault::NoFrames => return Some(numbered("frames", options_of(case.request)?.frames)),
@@ -295,13 +295,13 @@ fn starved_cause(request: &Request, frames: u64, credits: u64) -> Text {
 }
 
 /// Why a run clashed: at a cell of an array whose name is known where a graph was read that was kept.
-fn clash_cause(case: &Case<'_, '_>) -> Text {
+fn clash_cause(case: &Case<'_, '_, '_>) -> Text {
     let is_named = case.input.is_some() && !is_of_object(case.request);
     if is_named { "named-clash" } else { "clash" }
 }
 
 /// Why a run did not end at rest, of which so many requests for frames and for credits wait, with two numbers: these, or others.
-fn run_cause(case: &Case<'_, '_>, end: End, frames: u64, credits: u64) -> Option<Counted>
+fn run_cause(case: &Case<'_, '_, '_>, end: End, frames: u64, credits: u64) -> Option<Counted>
     ensures { is_some result ≡ not (exit_status end == 0) }
 {
     let request = case.request;
@@ -343,7 +343,7 @@ fn rest_cause(request: &Request, end: End, readers: u64) -> Option<Counted>
 }
 
 /// Why the meaning did not end at rest, with two numbers.
-fn meaning_cause(case: &Case<'_, '_>, end: MeanEnd) -> Option<Counted>
+fn meaning_cause(case: &Case<'_, '_, '_>, end: MeanEnd) -> Option<Counted>
     ensures { is_some result ≡ not (meaning_status end == 0) }
 {
     match end {
@@ -356,7 +356,7 @@ fn meaning_cause(case: &Case<'_, '_>, end: MeanEnd) -> Option<Counted>
 }
 
 /// What is to be said of how what was run ended, with two numbers.
-fn end_cause(case: &Case<'_, '_>, ending: Ending) -> Option<Counted>
+fn end_cause(case: &Case<'_, '_, '_>, ending: Ending) -> Option<Counted>
     ensures { is_some result ≡ end_wants ending }
 {
     match ending {
@@ -387,7 +387,7 @@ fn rule_of(ending: Ending) -> Option<Text> {
 
 /// What shows this cause, of which the second number may be that of an array.
 fn shown<'a>(
-    case: &Case<'_, 'a>,
+    case: &Case<'_, '_, 'a>,
     place: Option<Text>,
     counted: Counted,
     others: [u64; 2],
@@ -436,7 +436,7 @@ fn readers_of(ending: Ending) -> u64 {
 }
 
 /// What was found of a clash, with the stores of the array: at the line of the store, where there is one alone.
-fn with_stores<'a>(case: &Case<'_, 'a>, found: Found<'a>) -> Found<'a> {
+fn with_stores<'a>(case: &Case<'_, '_, 'a>, found: Found<'a>) -> Found<'a> {
     let (Some(source), "named-clash") = (case.source(), found.cause) else {
         return found;
     };
@@ -484,11 +484,12 @@ fn fault_at_rest(ending: Ending) -> Option<MadeFault>
 }
 
 /// What is to be said of how what was run ended, and the rule that excludes a token. The last number shown is that of all frames.
-pub fn end_fault<'a>(case: &Case<'_, 'a>, ending: Ending) -> Option<Found<'a>>
+pub fn end_fault<'a>(case: &Case<'_, '_, 'a>, ending: Ending) -> Option<Found<'a>>
     ensures { is_some result ≡ ending_wants ending }
 {
     if let Some(fault) = fault_at_rest(ending) {
-        return Some(found_fault(case.source(), fault));
+        let source = case.source();
+        return Some(found_fault(source, fault));
     }
     let counted = end_cause(case, ending)?;
     let others = [0, frames_of(case.request)];
@@ -498,7 +499,7 @@ pub fn end_fault<'a>(case: &Case<'_, 'a>, ending: Ending) -> Option<Found<'a>>
 }
 
 /// Why the run of a row of a profile did not end at rest.
-fn row_fault<'a>(case: &Case<'_, 'a>, row: FailedRow) -> Option<Found<'a>>
+fn row_fault<'a>(case: &Case<'_, '_, 'a>, row: FailedRow) -> Option<Found<'a>>
     ensures { is_some result ≡ not (exit_status row.end == 0) }
 {
     let counted = run_cause(case, row.end, row.frames, row.credits)?;
@@ -513,7 +514,7 @@ fn row_fault<'a>(case: &Case<'_, 'a>, row: FailedRow) -> Option<Found<'a>>
 
 /// Why the meaning of a profile did not end at rest, or else the run of a row.
 pub fn profile_fault<'a>(
-    case: &Case<'_, 'a>,
+    case: &Case<'_, '_, 'a>,
     end: MeanEnd,
     failed: Option<FailedRow>,
 ) -> Option<Found<'a>>

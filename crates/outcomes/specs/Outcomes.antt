@@ -1,5 +1,6 @@
 -- Exit statuses, each a function of a command's outcome.
 use Rattle.std.specs.Prelude.{ℕ, List, [], ◌∷◌, if◌then◌else◌, is_some, Option, Some, None}
+use Rattle.tags.specs.Packed.{origin_code}
 use Rattle.tags.specs.declared.value.Value.{Value}
 use Rattle.semantics.specs.Report.{Report}
 use Rattle.semantics.specs.declared.report.End.{End}
@@ -48,7 +49,7 @@ or_else None other = other
 abbrev pub fault_in : Option Value → Option MadeFault
 fault_in None = None
 fault_in (Some (Value.Int z)) = None
-fault_in (Some (Value.Fault kind origin)) = Some (record { kind = kind; origin = origin })
+fault_in (Some (Value.Fault kind origin)) = Some (record { kind = kind; origin = origin_code origin })
 
 -- the fault of the first of these outputs, or of these cells, that has one
 abbrev pub first_fault : List (Option Value) → Option MadeFault

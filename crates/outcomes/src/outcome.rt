@@ -8,7 +8,7 @@ use oracle::MeanEnd;
 use schedule::report::Report;
 use semantics::report::End;
 use std::alloc::Allocator;
-use tags::value::{FaultKind, Origin, Value};
+use tags::value::{FaultKind, Value};
 
 /// The exit status of a refusal, of a fault of the command line, and where two orders differ.
 const REFUSED: u8 = 1;
@@ -17,7 +17,8 @@ const REFUSED: u8 = 1;
 #[derive(Clone, Copy, Debug, PartialEq, Eq)]
 pub struct MadeFault {
     pub kind: FaultKind,
-    pub origin: Origin,
+    /// The code of its origin, as `Origin::code` gives it: 0 where that is not recorded.
+    pub origin: u32,
 }
 
 /// How what was run ended.
@@ -108,7 +109,10 @@ fn fault_in(value: Option<Value>) -> Option<MadeFault>
     ensures { result ≡ fault_in value }
 {
     match value {
-        Some(Value::Fault { kind, origin }) => Some(MadeFault { kind, origin }),
+        Some(Value::Fault { kind, origin }) => Some(MadeFault {
+            kind,
+            origin: origin.code(),
+        }),
         Some(Value::Int(_)) | None => None,
     }
 }

@@ -35,7 +35,8 @@ fn faulty(kind: &str, block: Option<&str>, node: Option<&str>) -> Outcome {
             node: NodeNumber::new((number(node) % 1024) as u16),
         },
         None => Origin::Untold,
-    };
+    }
+    .code();
     Outcome::Reported(Ending::Run {
         end: End::Rest,
         frames: 0,
