@@ -28,7 +28,7 @@ mod words;
 
 use by_depth::advised;
 use catalog::{Text, found};
-use command_line::{Asked, Given, Inputs, Request, read_given, read_words};
+use command_line::{Asked, Given, Request, read_given, read_words};
 use graphs::{code_fault, graph_fault};
 pub use line::{Hint, Line};
 use lines::{line_at, split_graph, text_of, word_at};
@@ -41,7 +41,7 @@ use outcomes::{Ending, Outcome, Refusal};
 use programs::{kind_cause, program_fault};
 use readers::{ReaderCells, invocations_of, reader_cells};
 use runs::{
-    Case, at_only_line, end_fault, given_fault, input_fault, is_of_object, memory_cause,
+    Case, Named, at_only_line, end_fault, given_fault, input_fault, is_of_object, memory_cause,
     not_at_rest, page_fault, profile_fault, start_fault, too_many_frames,
 };
 use semantics::report::End;
@@ -115,8 +115,9 @@ fn placed<'a, S: AsStr>(
         Refusal::Start(fault) => start_fault(case, fault),
         Refusal::TooManyFrames(frames) => Some(too_many_frames(case.request, frames)),
         Refusal::NotAtRest => Some(not_at_rest(case.request)),
-        Refusal::InputLine(number) if is_of_object(case.request) || case.has_given() => {
-            given_fault(rest, number, case.inputs.is_some())
+        Refusal::InputLine(number)
+            if is_of_object(case.request) || case.named == Named::FileAndInputs => {
+            given_fault(rest, number, case.named != Named::Nothing)
         }
         // A file has a program only where it is lowered.
         Refusal::Program(_) => of_input(case, "lower", refusal),
@@ -142,15 +143,16 @@ fn unlocated<'a>(request: &Request, refusal: Refusal) -> Found<'a> {
     nowhere(cause, [""; 2]).with([kind; 2])
 }
 
-/// What was asked for, and where the words name a file the inputs after its name. Words that ask for nothing have a mistake, and no
+/// What was asked for, and whether the words name a file and inputs. Words that ask for nothing have a mistake, and no
 /// other outcome.
-fn asked_of<S: AsStr>(words: &[S]) -> (Request, Option<Inputs>) {
+fn asked_of<S: AsStr>(words: &[S]) -> (Request, Named) {
     if let Given::File(file) = read_given(words) {
-        return (file.request, Some(file.inputs));
+        let named = Named::after_file(&file.inputs);
+        return (file.request, named);
     }
     match read_words(words) {
-        Asked::Request(request) => (request, None),
-        _ => (Request::Check, None),
+        Asked::Request(request) => (request, Named::Nothing),
+        _ => (Request::Check, Named::Nothing),
     }
 }
 
@@ -163,14 +165,13 @@ fn cause_of<'a, S: AsStr>(
 ) -> Option<Found<'a>>
     ensures { is_some result ≡ wants_hint outcome }
 {
-    let (request, inputs) = asked_of(words);
+    let (request, named) = asked_of(words);
     let request = &request;
-    let inputs = inputs.as_ref();
     let case = Case {
         request,
         input,
         program,
-        inputs,
+        named,
     };
     match outcome {
         None => Some(nowhere("unwritten", [""; 2])),

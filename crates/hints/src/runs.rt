@@ -42,6 +42,24 @@ const RULES: [Text; 6] = [
     "rule 6 excludes a token: it goes to an output of main that has its value, or that is not there",
 ];
 
+/// Whether the words name a file, and inputs after it that take the place of those in the file.
+#[derive(Clone, Copy, Debug, PartialEq, Eq)]
+pub enum Named {
+    Nothing,
+    File,
+    FileAndInputs,
+}
+
+impl Named {
+    /// What the words name after a file with these inputs.
+    pub fn after_file(inputs: &Inputs) -> Named {
+        match inputs {
+            Inputs::Integers(integers) if integers.as_slice().is_empty() => Named::File,
+            _ => Named::FileAndInputs,
+        }
+    }
+}
+
 /// What was asked for, and the input that was read for it, if that was kept.
 #[derive(Clone, Copy)]
 pub struct Case<'r, 'p, 'a> {
@@ -49,8 +67,7 @@ pub struct Case<'r, 'p, 'a> {
     pub input: Option<&'a [u8]>,
     /// The program that the graph of the input was made of, if that is known.
     pub program: Option<Program<'p, 'a>>,
-    /// Where the words name a file: the inputs after its name that take the place of those in the file.
-    pub inputs: Option<&'r Inputs>,
+    pub named: Named,
 }
 
 impl<'r, 'p, 'a> Case<'r, 'p, 'a> {
@@ -62,15 +79,6 @@ impl<'r, 'p, 'a> Case<'r, 'p, 'a> {
         let graph = split_graph(self.input?).0;
         let program = self.program;
         Some(Source { graph, program })
-    }
-
-    /// Whether inputs among the words took the place of those in a file.
-    pub fn has_given(&self) -> bool {
-        match self.inputs {
-            Some(Inputs::Integers(integers)) => !integers.as_slice().is_empty(),
-            Some(Inputs::NoInteger(_) | Inputs::TooMany) => true,
-            None => false,
-        }
     }
 }
 
@@ -112,11 +120,11 @@ fn inputs_fault<'a>(case: &Case<'_, '_, 'a>, input: &'a [u8]) -> Option<Found<'a
     let wants = Block::of(text, Some(name), 0)?.inputs;
     let has = lines.split(is_line_feed).filter(is_full).count() as u64;
     let numbers = [has, wants, 0, 0, 0, 0];
-    let cause = match case.inputs {
-        Some(_) if !case.has_given() => "file-inputs",
-        Some(_) if has > MOST_INPUTS => "many-inputs",
-        Some(_) => "given-inputs",
-        None => "graph-inputs",
+    let cause = match case.named {
+        Named::Nothing => "graph-inputs",
+        Named::File => "file-inputs",
+        Named::FileAndInputs if has > MOST_INPUTS => "many-inputs",
+        Named::FileAndInputs => "given-inputs",
     };
     Some(Found::of(None, cause, [name; 2], [b""; 3], numbers))
 }
