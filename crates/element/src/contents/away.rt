@@ -49,6 +49,9 @@ impl<'m, A: Allocator> Contents<'m, A> {
         ensures sent_len { vec_len sent.new ≤ vec_len sent.old + 2 }
         ensures sent_capacity { vec_capacity sent.new ≡ vec_capacity sent.old }
     {
+        if T::HOLDS && matches!(token.to(), To::Manager) {
+            return false;
+        }
         let again = *token;
         self.acts_away::<C, T>(code, at, again, sent)
     }

@@ -14,13 +14,25 @@ use crate::grant_order::GrantOrder;
 use crate::instructions::Instructions;
 use packed::token::PackedToken;
 use std::alloc::Allocator;
-use tags::token::To;
-
-/// The site of the event that grants a request.
-pub struct Granted;
+use tags::token::{FrameId, To, Word};
 
 /// From how many tokens on that were taken out no request is put aside.
 const LONG: usize = 4_611_686_018_427_387_904;
+
+// Takes the token in that place out. One that is last, or last but one, goes by one move.
+#[inline(always)]
+fn take_out<A: Allocator>(tokens: &mut Vec<PackedToken, A>, at: usize)
+    requires { at < vec_len tokens.old }
+    ensures items { tokens.new.items ≡ remove tokens.old.items at }
+    ensures len { vec_len tokens.new + 1 ≡ vec_len tokens.old }
+    ensures capacity { vec_capacity tokens.new ≡ vec_capacity tokens.old }
+{
+    if tokens.len() - at <= 2 {
+        tokens.swap_remove(at);
+    } else {
+        tokens.remove(at);
+    }
+}
 
 impl<'m, A: Allocator> Contents<'m, A> {
     // Whether the oldest token asks for a frame.
@@ -32,6 +44,7 @@ impl<'m, A: Allocator> Contents<'m, A> {
     }
 
     // Puts the oldest token aside.
+    #[inline(never)]
     fn hold(&mut self, order: &mut GrantOrder<A>, aside: &mut Vec<PackedToken, A>)
         requires some { 0 < length self.old.queue.items }
         requires few { self.old.queue.gone < 2 ^ 63 }
@@ -52,10 +65,15 @@ impl<'m, A: Allocator> Contents<'m, A> {
         self.take(0);
     }
 
-    // Notes the frame that a request got.
-    fn note<C: Instructions>(&self, code: &C, request: &PackedToken, order: &mut GrantOrder<A>) {
-        if let Some(last) = self.queue.len().checked_sub(1) {
-            order.note(code, request, &self.queue.packed(last));
+    // The frame that the oldest token brings, if it brings one.
+    #[inline(always)]
+    fn given(&self) -> Option<FrameId> {
+        if self.queue.len() == 0 {
+            return None;
+        }
+        match self.queue.packed(0).word().unpack() {
+            Word::Frame(frame) => Some(frame),
+            _ => None,
         }
     }
 
@@ -82,6 +100,7 @@ impl<'m, A: Allocator> Contents<'m, A> {
     }
 
     // Grants the request that is the first in order, where no other token is left, and answers whether it did. Else nothing is changed.
+    #[inline(never)]
     fn grants_first<C: Instructions>(
         &mut self,
         code: &C,
@@ -114,18 +133,18 @@ impl<'m, A: Allocator> Contents<'m, A> {
         let at = order.best(aside);
         let request = aside[at];
         self.offer(request);
-        if !self.acts_at_once::<C, Alone, Granted>(code, 0, &request, sent) {
+        if !self.acts_elsewhere::<C, Alone>(code, 0, &request, sent) {
             self.take(0);
             return false;
         }
-        aside.remove(at);
-        order.grant();
-        self.note(code, &request, order);
+        take_out(aside, at);
+        order.grant(code, at, self.given());
         true
     }
 
     // Puts the oldest token aside where it asks for a frame, or grants a request where no other token is left, and answers whether it did
     // either. Else nothing is changed.
+    #[inline(always)]
     fn goes_on<C: Instructions>(
         &mut self,
         code: &C,
@@ -173,6 +192,7 @@ impl<'m, A: Allocator> Contents<'m, A> {
 
     // Makes events up to the one that is the `end`-th, until a request is the oldest token, and then goes on. It answers whether it may go on
     // once more.
+    #[inline(always)]
     fn makes_some<C: Instructions>(
         &mut self,
         code: &C,
@@ -208,13 +228,14 @@ impl<'m, A: Allocator> Contents<'m, A> {
         if left == 0 {
             return false;
         }
-        if self.make_at_once::<C, AloneByDepth>(code, left, sent) {
+        if self.make_among_few::<C, AloneByDepth>(code, left, sent) {
             return false;
         }
         self.goes_on(code, order, aside, sent)
     }
 
     // Makes events up to that one, as long as it may go on.
+    #[inline(never)]
     fn makes_all<C: Instructions>(
         &mut self,
         code: &C,
