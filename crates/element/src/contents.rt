@@ -354,7 +354,8 @@ impl<'m, A: Allocator> Contents<'m, A> {
         true
     }
 
-    // Whether a token waits, so many being gone and `end` of them to be. The queue is looked at where those up to `stop` are gone.
+    // Whether one more token may be taken, where so many were taken and no more than `end` are to be. As many wait as it takes to come to
+    // `stop`: the queue is asked only after them.
     #[inline(always)]
     fn may_take(&self, gone: usize, end: usize, stop: &mut usize) -> bool
         requires gone { gone ≡ self.now.queue.gone }
@@ -374,7 +375,7 @@ impl<'m, A: Allocator> Contents<'m, A> {
         gone < *stop
     }
 
-    // The same as `make_at_once` where few tokens wait mostly: it is asked whether one waits when as many were taken as waited before.
+    // The same as `make_at_once`, for where few tokens wait at most times: as many are taken as wait before the queue is asked again.
     #[inline(always)]
     fn make_among_few<C: Instructions, T: Company>(
         &mut self,

@@ -212,7 +212,7 @@ impl<A: Allocator> GrantOrder<A> {
         }
     }
 
-    // Those that were behind this place move up. Mostly they are granted soon.
+    // Those that came after the one in this place move up. They are mostly granted soon, and so lie last.
     #[inline(always)]
     fn move_up(&mut self, place: usize) {
         let mut at = self.held.len();

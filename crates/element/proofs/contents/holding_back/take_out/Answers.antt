@@ -1,6 +1,5 @@
-use Rattle.std.proofs.Common.{◌≡◌, ◌∙◌, ap, suc, ◌-◌, ◌≤◌, ◌+◌, ◌<◌, List, length, arith}
-use Rattle.std.specs.Prelude.{vec_len, take, slice_set, slice_index_or}
-use Rattle.tags.specs.declared.token.Token.{Token}
+use Rattle.std.proofs.Common.{◌≡◌, ◌∙◌, ◌-◌, length, arith}
+use Rattle.std.specs.Prelude.{vec_len}
 use Rattle.element.proofs.Aside.{out_of_last_two}
 use Rattle.element.proofs.contents.holding_back.take_out.Goals as goal
 
