@@ -215,11 +215,11 @@ impl<A: Allocator> GrantOrder<A> {
     // Those that came after the one in this place move up. They are mostly granted soon, and so lie last.
     #[inline(always)]
     fn move_up(&mut self, place: usize) {
-        let mut at = self.held.len();
-        let mut behind = at.saturating_sub(place);
-        'places: while behind != 0 && at != 0 {
-            at -= 1;
-            let held = &mut self.held[at];
+        let mut behind = self.held.len().saturating_sub(place);
+        for held in self.held.iter_mut().rev() {
+            if behind == 0 {
+                return;
+            }
             if place < held.place {
                 held.place -= 1;
                 behind -= 1;
