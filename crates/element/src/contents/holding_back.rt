@@ -169,6 +169,8 @@ impl<'m, A: Allocator> Contents<'m, A> {
         ensures least { self.old.queue.gone + vec_len aside.new ≤ self.new.queue.gone + vec_len aside.old }
         ensures len { length self.new.queue.items + vec_len aside.new + 2 * (self.old.queue.gone + vec_len aside.new)
             ≤ length self.old.queue.items + vec_len aside.old + 2 * (self.new.queue.gone + vec_len aside.old) }
+        ensures fewer { result ≡ true → length self.new.queue.items + 4 * (self.old.queue.gone + vec_len aside.new)
+            < length self.old.queue.items + 4 * (self.new.queue.gone + vec_len aside.old) }
         ensures same_room { self.new.queue.room ≡ self.old.queue.room }
         ensures short { vec_len aside.new ≤ 4611686018427387904 }
         ensures capacity { vec_capacity aside.new ≡ vec_capacity aside.old }
@@ -221,6 +223,8 @@ impl<'m, A: Allocator> Contents<'m, A> {
         ensures room { length self.new.queue.items + vec_len aside.new + 2 * (end + vec_len aside.new) + 1 ≤ self.new.queue.room + 2 * self.new.queue.gone }
         ensures aside_room { length self.new.queue.items + vec_len aside.new + 2 * (end + vec_len aside.new) ≤ vec_capacity aside.new
             + 2 * self.new.queue.gone }
+        ensures fewer { result ≡ true → length self.new.queue.items + 4 * (self.old.queue.gone + vec_len aside.new)
+            < length self.old.queue.items + 4 * (self.new.queue.gone + vec_len aside.old) }
         ensures shape { shape_of self.new ≡ shape_of self.old }
     {
         let made = (self.queue.gone() - aside.len()) as u64;
@@ -266,11 +270,7 @@ impl<'m, A: Allocator> Contents<'m, A> {
             + 2 * self.new.queue.gone }
         ensures shape { shape_of self.new ≡ shape_of self.old }
     {
-        for _ in 0..u64::MAX {
-            if !self.makes_some(code, end, order, aside, sent) {
-                return;
-            }
-        }
+        'turns: while self.makes_some(code, end, order, aside, sent) {}
     }
 
     /// The only element makes up to so many events, each at once: each with its oldest token that is no request for a frame, or with a request
