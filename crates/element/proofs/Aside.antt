@@ -1,7 +1,7 @@
 -- Requests that are put aside while other tokens are taken.
 use Rattle.std.proofs.Common.{◌≡◌, refl, sym, ◌∙◌, ap, subst, ℕ, zero, suc, ◌+◌, ◌-◌, ◌%◌, ◌<◌, ◌≤◌, inl, inr, Bool, true, false, List, [], ◌∷◌, ◌++◌}
 use Rattle.std.proofs.Common.{length, get_or, Option, Some, arith, append_assoc, length-append}
-use Rattle.std.specs.Prelude.{All, remove, slice_get, IsPermutation, if◌then◌else◌}
+use Rattle.std.specs.Prelude.{All, take, remove, slice_get, slice_set, slice_index_or, IsPermutation, if◌then◌else◌}
 use Rattle.std.proofs.Math.Nat.{zero-mod, mod-eq_of_lt}
 use Rattle.std.proofs.lemmas.List.{get_or_append_left, append-nil}
 use Rattle.std.proofs.lemmas.List.Edits.{length-remove}
@@ -285,6 +285,21 @@ pub offered_taken : (t : Token) (h : Holding) → 0 < h.made → taken (offered 
 offered_taken t h some = let made : h.made - 1 + 1 ≡ h.made = omega arith in ap (λ (n : ℕ). with_made h h.queue n) made
 
 -- ONE OF THOSE ASIDE IS GRANTED
+-- the last one, or the last but one, is taken out by one move
+pub out_of_last_two : {X : Type 0} (xs : List X) (i n : ℕ) (d : X) → length xs ≡ suc n → i < length xs → length xs ≤ i + 2
+    → take n (slice_set xs i (slice_index_or xs n d)) ≡ remove xs i
+out_of_last_two [] i n d long low two = absurd (omega arith)
+out_of_last_two (x ∷ []) zero zero d long low two = refl
+out_of_last_two (x ∷ []) zero (suc n) d long low two = absurd (omega arith)
+out_of_last_two (x ∷ []) (suc i) n d long low two = absurd (omega arith)
+out_of_last_two (x ∷ y ∷ []) zero zero d long low two = absurd (omega arith)
+out_of_last_two (x ∷ y ∷ []) zero (suc zero) d long low two = refl
+out_of_last_two (x ∷ y ∷ []) zero (suc (suc n)) d long low two = absurd (omega arith)
+out_of_last_two (x ∷ y ∷ z ∷ zs) zero n d long low two = absurd (omega arith)
+out_of_last_two (x ∷ y ∷ ys) (suc i) zero d long low two = absurd (omega arith)
+out_of_last_two (x ∷ y ∷ ys) (suc i) (suc n) d long low two =
+    ap (λ (l : List _). x ∷ l) (out_of_last_two (y ∷ ys) i n d (omega arith) (omega arith) (omega arith))
+
 one_all : (P : Token → Type 0) (t : Token) (q : List Token) → q ≡ [] → P t → All P (t ∷ q)
 one_all P t q none is = subst (λ (l : List Token). All P (t ∷ l)) (sym none) (λ k d low. by_place k d low)
   where

@@ -354,6 +354,69 @@ impl<'m, A: Allocator> Contents<'m, A> {
         true
     }
 
+    // Whether one more token may be taken, where so many were taken and no more than `end` are to be. As many wait as it takes to come to
+    // `stop`: the queue is asked only after them.
+    #[inline(always)]
+    fn may_take(&self, gone: usize, end: usize, stop: &mut usize) -> bool
+        requires gone { gone ≡ self.now.queue.gone }
+        requires few { gone < 2 ^ 63 }
+        requires end { gone ≤ end }
+        requires stop { stop.old ≤ end }
+        requires waiting { stop.old ≤ gone + length self.now.queue.items }
+        ensures yes { result ≡ true → gone < stop.new }
+        ensures no { result ≡ false → stop.new ≡ gone }
+        ensures stop { stop.new ≤ end }
+        ensures waiting { stop.new ≤ gone + length self.now.queue.items }
+    {
+        if gone < *stop {
+            return true;
+        }
+        *stop = self.queue.come().min(end);
+        gone < *stop
+    }
+
+    // The same as `make_at_once`, for where few tokens wait at most times: as many are taken as wait before the queue is asked again.
+    #[inline(always)]
+    fn make_among_few<C: Instructions, T: Company>(
+        &mut self,
+        code: &C,
+        events: u64,
+        sent: &mut Vec<PackedToken, A>,
+    ) -> bool
+    where
+        A: Clone,
+        requires known { 0 < T.COUNT → self.old.elements ≡ T.COUNT }
+        requires sound { IsSoundLane (C.program code.now) (held_in self.old) }
+        requires width { C.width code.now ≤ self.old.bank.width }
+        requires few { self.old.queue.gone + events < 2 ^ 63 }
+        requires room { length self.old.queue.items + 2 * events + 1 ≤ self.old.queue.room }
+        requires sent_room { (T.COUNT == 1) ≡ false → vec_len sent.old + 2 * events ≤ vec_capacity sent.old }
+        ensures exact { (steps : ℕ) → self.old.queue.gone + events ≤ steps → (made : ℕ) × SendsEvents (C.program code.now) steps made (held_in self.old)
+            sent.old.items (held_in self.new) sent.new.items }
+        ensures others { T.HOLDS ≡ true → (steps : ℕ) → self.old.queue.gone + events ≤ steps → (made : ℕ) × SendsOthers (C.program code.now) steps made
+            (held_in self.old) sent.old.items (held_in self.new) sent.new.items }
+        ensures sound { IsSoundLane (C.program code.now) (held_in self.new) }
+        ensures shape { shape_of self.new ≡ shape_of self.old }
+        ensures all { result ≡ true → self.new.queue.gone ≡ self.old.queue.gone + events }
+        ensures most { self.new.queue.gone ≤ self.old.queue.gone + events }
+        ensures part { result ≡ false → self.new.queue.gone < self.old.queue.gone + events }
+        ensures least { self.old.queue.gone ≤ self.new.queue.gone }
+        ensures len { length self.new.queue.items + 2 * self.old.queue.gone ≤ length self.old.queue.items + 2 * self.new.queue.gone }
+        ensures capacity { self.new.queue.room ≡ self.old.queue.room }
+    {
+        let mut gone = self.queue.gone();
+        let end = gone + events as usize;
+        let mut stop = self.queue.come().min(end);
+        'events: while self.may_take(gone, end, &mut stop) {
+            let token = self.queue.oldest(gone);
+            if !self.acts_at_once::<C, T, Many>(code, 0, &token, sent) {
+                return false;
+            }
+            gone += 1;
+        }
+        gone == end
+    }
+
     /// Makes so many events, each at once and with the oldest token, and answers whether it made them all: it stops where there is
     /// no token, and before one that is not done at once. Tokens for other elements go last into `sent`, which has room for two an
     /// event.

@@ -51,11 +51,11 @@ impl Rank {
     }
 }
 
-/// A request that is held back, and how many were before it.
+/// A request that is held back, and its place among those that are, in the order in which they came.
 #[derive(Clone, Copy, Debug)]
 struct Held {
     rank: Rank,
-    number: u64,
+    place: usize,
 }
 
 /// Whether the frame is one for a call that goes to this instruction.
@@ -80,8 +80,6 @@ pub struct GrantOrder<A: Allocator> {
     calls: u64,
     /// The requests in the order in which they are granted, the first one last.
     held: Vec<Held, A>,
-    /// How many have been held back since there was none.
-    number: u64,
     /// What is known of instructions, each in the place of its number modulo that of the places.
     uses: [Use; LOOKS],
 }
@@ -135,7 +133,6 @@ impl<A: Allocator> GrantOrder<A> {
             ages: Vec::new(alloc.clone()?),
             calls: 0,
             held: Vec::new(alloc.clone()?),
-            number: 0,
             uses: [Use::UNKNOWN; LOOKS],
         })
     }
@@ -182,43 +179,61 @@ impl<A: Allocator> GrantOrder<A> {
     /// Forgets the requests that are held back, and makes room for so many. After an error there is as much room as before.
     pub fn make_room_held(&mut self, requests: usize) -> Result<(), AllocError> {
         self.held.clear();
-        self.number = 0;
         self.held.reserve(requests)
     }
 
     /// Notes that a request is held back, behind those that are.
     pub fn hold(&mut self, request: &PackedToken) {
-        let held = Held {
-            rank: self.rank(request),
-            number: self.number,
-        };
-        self.number = self.number.wrapping_add(1);
         let mut at = self.held.len();
+        if at == self.held.capacity() {
+            return;
+        }
+        let rank = self.rank(request);
+        self.held.push_reserved(Held { rank, place: at });
         'places: while let Some(before) = at.checked_sub(1) {
-            if held.rank.is_before(&self.held[before].rank) {
-                break;
+            if rank.is_before(&self.held[before].rank) {
+                return;
             }
+            self.held.swap(before, at);
             at = before;
         }
-        if self.held.len() < self.held.capacity() {
-            let _ = self.held.insert(at, held);
+    }
+
+    /// Notes that the request that is granted first was granted, which was in this place, and which frame it got, if it got one. Those behind
+    /// it move up.
+    #[inline(always)]
+    pub fn grant<C: Instructions>(&mut self, code: &C, place: usize, given: Option<FrameId>) {
+        let Some(granted) = self.held.pop() else {
+            return;
+        };
+        self.move_up(place);
+        if let Some(given) = given {
+            self.note_grant(code, &granted.rank, given);
         }
     }
 
-    /// Notes that the request that is granted first was granted.
-    pub fn grant(&mut self) {
-        self.held.pop();
-    }
-
-    // How many of the requests that are held back came before that one.
-    fn before(&self, number: u64) -> usize {
-        let mut count: usize = 0;
-        for held in &self.held {
-            if held.number < number {
-                count = count.wrapping_add(1);
+    // Those that came after the one in this place move up. They are mostly granted soon, and so lie last.
+    #[inline(always)]
+    fn move_up(&mut self, place: usize) {
+        let mut behind = self.held.len().saturating_sub(place);
+        for held in self.held.iter_mut().rev() {
+            if behind == 0 {
+                return;
+            }
+            if place < held.place {
+                held.place -= 1;
+                behind -= 1;
             }
         }
-        count
+    }
+
+    // Notes the frame that a request of this rank got.
+    #[inline(always)]
+    fn note_grant<C: Instructions>(&mut self, code: &C, rank: &Rank, given: FrameId) {
+        if rank.ip != Rank::LEAST.ip {
+            let is_call = self.is_call(code, rank.ip);
+            self.set_age(&rank.age, is_call, given);
+        }
     }
 
     /// The place of the request that is granted first among these, which are held back.
@@ -228,9 +243,8 @@ impl<A: Allocator> GrantOrder<A> {
         ensures { result < length requests.now }
     {
         if let Some(first) = self.held.last() {
-            let at = self.before(first.number);
-            if at < requests.len() {
-                return at;
+            if first.place < requests.len() {
+                return first.place;
             }
         }
         requests.len() - 1
@@ -270,16 +284,13 @@ impl<A: Allocator> GrantOrder<A> {
             return;
         };
         if to == frame && at == ip {
-            let is_call = self.is_call(code, ip);
-            self.set_age(frame, is_call, given);
+            let rank = self.rank(request);
+            self.note_grant(code, &rank, given);
         }
     }
 
-    // Sets the age of a frame that was given to another one, for a call or for the next turn of a loop.
-    fn set_age(&mut self, from: FrameId, is_call: bool, given: FrameId) {
-        let Some(old) = self.ages.get(from as usize) else {
-            return;
-        };
+    // Sets the age of a frame that was given for a call of a frame of the age `old`, or for the next turn of its loop.
+    fn set_age(&mut self, old: &Age, is_call: bool, given: FrameId) {
         let mut age = Age {
             calls: old.calls,
             turn: old.turn.wrapping_add(1),

@@ -25,7 +25,8 @@ use tags::token::{Cont, FrameId, To, Word};
 use tags::value::Value;
 
 impl<'m, A: Allocator> Contents<'m, A> {
-    // The same as `acts_away`. What has to lie in memory to go out of line, a copy of the token, is made here.
+    // The same as `acts_away`. What has to lie in memory to go out of line, a copy of the token, is made here. A request that is held back
+    // does not go there.
     #[inline(always)]
     pub(super) fn acts_elsewhere<C: Instructions, T: Company>(
         &mut self,
@@ -49,6 +50,9 @@ impl<'m, A: Allocator> Contents<'m, A> {
         ensures sent_len { vec_len sent.new ≤ vec_len sent.old + 2 }
         ensures sent_capacity { vec_capacity sent.new ≡ vec_capacity sent.old }
     {
+        if T::HOLDS && matches!(token.to(), To::Manager) {
+            return false;
+        }
         let again = *token;
         self.acts_away::<C, T>(code, at, again, sent)
     }

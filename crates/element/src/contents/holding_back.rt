@@ -14,13 +14,25 @@ use crate::grant_order::GrantOrder;
 use crate::instructions::Instructions;
 use packed::token::PackedToken;
 use std::alloc::Allocator;
-use tags::token::To;
-
-/// The site of the event that grants a request.
-pub struct Granted;
+use tags::token::{FrameId, To, Word};
 
 /// From how many tokens on that were taken out no request is put aside.
 const LONG: usize = 4_611_686_018_427_387_904;
+
+// Takes the token in that place out. One that is last, or last but one, goes by one move.
+#[inline(always)]
+fn take_out<A: Allocator>(tokens: &mut Vec<PackedToken, A>, at: usize)
+    requires { at < vec_len tokens.old }
+    ensures items { tokens.new.items ≡ remove tokens.old.items at }
+    ensures len { vec_len tokens.new + 1 ≡ vec_len tokens.old }
+    ensures capacity { vec_capacity tokens.new ≡ vec_capacity tokens.old }
+{
+    if tokens.len() - at <= 2 {
+        tokens.swap_remove(at);
+    } else {
+        tokens.remove(at);
+    }
+}
 
 impl<'m, A: Allocator> Contents<'m, A> {
     // Whether the oldest token asks for a frame.
@@ -32,6 +44,7 @@ impl<'m, A: Allocator> Contents<'m, A> {
     }
 
     // Puts the oldest token aside.
+    #[inline(never)]
     fn hold(&mut self, order: &mut GrantOrder<A>, aside: &mut Vec<PackedToken, A>)
         requires some { 0 < length self.old.queue.items }
         requires few { self.old.queue.gone < 2 ^ 63 }
@@ -52,10 +65,15 @@ impl<'m, A: Allocator> Contents<'m, A> {
         self.take(0);
     }
 
-    // Notes the frame that a request got.
-    fn note<C: Instructions>(&self, code: &C, request: &PackedToken, order: &mut GrantOrder<A>) {
-        if let Some(last) = self.queue.len().checked_sub(1) {
-            order.note(code, request, &self.queue.packed(last));
+    // The frame that the oldest token brings, if it brings one.
+    #[inline(always)]
+    fn given(&self) -> Option<FrameId> {
+        if self.queue.len() == 0 {
+            return None;
+        }
+        match self.queue.packed(0).word().unpack() {
+            Word::Frame(frame) => Some(frame),
+            _ => None,
         }
     }
 
@@ -82,6 +100,7 @@ impl<'m, A: Allocator> Contents<'m, A> {
     }
 
     // Grants the request that is the first in order, where no other token is left, and answers whether it did. Else nothing is changed.
+    #[inline(never)]
     fn grants_first<C: Instructions>(
         &mut self,
         code: &C,
@@ -114,18 +133,18 @@ impl<'m, A: Allocator> Contents<'m, A> {
         let at = order.best(aside);
         let request = aside[at];
         self.offer(request);
-        if !self.acts_at_once::<C, Alone, Granted>(code, 0, &request, sent) {
+        if !self.acts_elsewhere::<C, Alone>(code, 0, &request, sent) {
             self.take(0);
             return false;
         }
-        aside.remove(at);
-        order.grant();
-        self.note(code, &request, order);
+        take_out(aside, at);
+        order.grant(code, at, self.given());
         true
     }
 
     // Puts the oldest token aside where it asks for a frame, or grants a request where no other token is left, and answers whether it did
     // either. Else nothing is changed.
+    #[inline(always)]
     fn goes_on<C: Instructions>(
         &mut self,
         code: &C,
@@ -150,6 +169,8 @@ impl<'m, A: Allocator> Contents<'m, A> {
         ensures least { self.old.queue.gone + vec_len aside.new ≤ self.new.queue.gone + vec_len aside.old }
         ensures len { length self.new.queue.items + vec_len aside.new + 2 * (self.old.queue.gone + vec_len aside.new)
             ≤ length self.old.queue.items + vec_len aside.old + 2 * (self.new.queue.gone + vec_len aside.old) }
+        ensures fewer { result ≡ true → length self.new.queue.items + 4 * (self.old.queue.gone + vec_len aside.new)
+            < length self.old.queue.items + 4 * (self.new.queue.gone + vec_len aside.old) }
         ensures same_room { self.new.queue.room ≡ self.old.queue.room }
         ensures short { vec_len aside.new ≤ 4611686018427387904 }
         ensures capacity { vec_capacity aside.new ≡ vec_capacity aside.old }
@@ -173,6 +194,7 @@ impl<'m, A: Allocator> Contents<'m, A> {
 
     // Makes events up to the one that is the `end`-th, until a request is the oldest token, and then goes on. It answers whether it may go on
     // once more.
+    #[inline(always)]
     fn makes_some<C: Instructions>(
         &mut self,
         code: &C,
@@ -201,6 +223,8 @@ impl<'m, A: Allocator> Contents<'m, A> {
         ensures room { length self.new.queue.items + vec_len aside.new + 2 * (end + vec_len aside.new) + 1 ≤ self.new.queue.room + 2 * self.new.queue.gone }
         ensures aside_room { length self.new.queue.items + vec_len aside.new + 2 * (end + vec_len aside.new) ≤ vec_capacity aside.new
             + 2 * self.new.queue.gone }
+        ensures fewer { result ≡ true → length self.new.queue.items + 4 * (self.old.queue.gone + vec_len aside.new)
+            < length self.old.queue.items + 4 * (self.new.queue.gone + vec_len aside.old) }
         ensures shape { shape_of self.new ≡ shape_of self.old }
     {
         let made = (self.queue.gone() - aside.len()) as u64;
@@ -208,13 +232,14 @@ impl<'m, A: Allocator> Contents<'m, A> {
         if left == 0 {
             return false;
         }
-        if self.make_at_once::<C, AloneByDepth>(code, left, sent) {
+        if self.make_among_few::<C, AloneByDepth>(code, left, sent) {
             return false;
         }
         self.goes_on(code, order, aside, sent)
     }
 
     // Makes events up to that one, as long as it may go on.
+    #[inline(never)]
     fn makes_all<C: Instructions>(
         &mut self,
         code: &C,
@@ -245,11 +270,7 @@ impl<'m, A: Allocator> Contents<'m, A> {
             + 2 * self.new.queue.gone }
         ensures shape { shape_of self.new ≡ shape_of self.old }
     {
-        for _ in 0..u64::MAX {
-            if !self.makes_some(code, end, order, aside, sent) {
-                return;
-            }
-        }
+        'turns: while self.makes_some(code, end, order, aside, sent) {}
     }
 
     /// The only element makes up to so many events, each at once: each with its oldest token that is no request for a frame, or with a request
