@@ -98,7 +98,7 @@ const farOf = new Map();
 function draw(list) {
   const key = list.map(b => b.n).join();
   if (key === drawn) return;
-  drawn = key; shown = list; place = new Map(); edgeOf = new Map(); farOf.clear(); rowOf = new Map();
+  drawn = key; shown = list; place = new Map(); edgeOf = new Map(); farOf.clear(); rowOf = new Map(); told.clear();
   const small = list.filter(b => b.code.length <= BIG), big = list.filter(b => b.code.length > BIG), g = [];
   let x = 10, y = 10, rowh = 0, W = 0;
   const room = Math.max(900, ...small.map(b => (b.lay = b.lay || layout(b)).w + 20));
@@ -191,11 +191,10 @@ function blocksFor(n, f, s) {
   if (v === 'all') return BLOCKS;
   if (v === 'run') return BLOCKS.filter(b => b.used);
   if (v !== 'follow') return [BLOCKS[+v]];
-  const t = n < 0 ? D.start[0] : TOK[EV[n][1]], o = s.out.get(f);
-  if (t && t[0] === 'i' && CODE[t[2]]) return [BLOCKS[CODE[t[2]].b]];
-  return o && o.b >= 0 ? [BLOCKS[o.b]] : shown.length ? shown : [BLOCKS[MAIN]];
+  const i = CODE[n < 0 ? START ? IP[0] : -1 : ipOf(n)], b = s.out.has(f) && blockOf(s.out.get(f), n);
+  return i ? [BLOCKS[i.b]] : b ? [b] : shown.length ? shown : [BLOCKS[MAIN]];
 }
-let hot = [];
+let hot = [], told = new Map();  // what is marked; the rows of tables with their tokens
 function chip(x, y, w, cls, title, t, aside) {  // aside: how far from the middle; never across it
   const s = brief(w, 13), wd = Math.max(20, 10 + 6.8 * s.length);
   if (aside) x += Math.sign(aside) * Math.max(Math.abs(aside), wd / 2 + 1);
@@ -207,48 +206,49 @@ function marks(n, s, pool, f) {
   for (const h of hot) h[0].classList.remove(h[1]);
   hot = [];
   const on = (e, c) => { if (e) { e.classList.add(c); hot.push([e, c]); } };
-  const ev = n < 0 ? null : EV[n], t0 = ev && TOK[ev[1]], src = t0 && t0[0] === 'i' ? t0[2] : -1, all = $('fsel').value === 'all';
+  const ev = n < 0 ? null : eventOf(n), src = ipOf(n), all = $('fsel').value === 'all';
   if (src >= 0) { on(CODE[src] && CODE[src].g, 'act'); on(rowOf.get(src), 'act'); if (farOf.get(src) && ev[4].length) on(farOf.get(src), 'on'); }
   if (picked && picked.ip !== undefined) on(CODE[picked.ip] && CODE[picked.ip].g, 'sel');
-  for (const h of rowOf.values()) h.lastChild.textContent = '';
+  for (const r of told.keys()) r.lastChild.textContent = '';
+  told.clear();
   if (layer) layer.replaceChildren();
   const kids = [], stack = new Map(), others = new Map();
   const spot = (k, x, y) => { const c = stack.get(k) || 0; stack.set(k, c + 1); return c > 5 ? null : [x + c * 7, y - c * 13]; };
   const rest = ip => others.set(ip, (others.get(ip) || 0) + 1);
   if (ev) for (const m of ev[4]) if (m[0] === 'i' && src >= 0) {
-    const e = m[1] === t0[1] && edgeOf.get(src + '>' + m[2] + m[3]), A = place.get(src), Z = place.get(m[2]);
+    const e = m[1] === TO[TAKES[n]] && edgeOf.get(src + '>' + m[2] + m[3]), A = place.get(src), Z = place.get(m[2]);
     if (e) on(e.path, 'hot');
     else if (A && Z && !farOf.get(src)) { const up = Z.y < A.y, h = up ? -30 : 40, zx = Z.x + (CODE[m[2]].two ? (m[3] === 'l' ? -1 : 1) * Z.w / 4 : 0);
         kids.push(sv('path', {class: 'made',
         d: `M${A.x + A.w / 2},${A.y + NH / 2}C${A.x + A.w / 2 + 70},${A.y + NH / 2 + h} ${zx + (up ? 60 : 0)},${Z.y - 60} ${zx},${Z.y}`,
         'marker-end': 'url(#arrowm)'})); }
   }
+  const tell = (ip, text) => { const r = rowOf.get(ip); if (r) told.set(r, (told.get(r) || '') + ' ' + text); };
+  const side = (ip, port) => CODE[ip].two ? (port === 'l' ? -1 : 1) * place.get(ip).w / 4 : 0, crowd = new Map();
   for (const t of pool) {
-    const T = TOK[t];
-    if (T[0] !== 'i') continue;
-    if (!all && T[1] !== f) { rest(T[2]); continue; }
-    const r = rowOf.get(T[2]);
-    if (r) r.lastChild.textContent += ' ' + brief(T[4], 14) + ' ' + T[3];
-    const Z = place.get(T[2]);
+    const ip = IP[t], many = crowd.get(ip) || 0;
+    if (ip < 0) continue;
+    if ((!all && TO[t] !== f) || many > 15) { rest(ip); continue; }
+    crowd.set(ip, many + 1);
+    const T = tokenOf(t), Z = place.get(ip), from = MADE[t];
+    tell(ip, brief(T[4], 14) + ' ' + T[3]);
     if (!Z) continue;
-    const m = MADE[t], M = m >= 0 && TOK[EV[m][1]], e = M && M[0] === 'i' && M[1] === T[1] && edgeOf.get(M[2] + '>' + T[2] + T[3]);
-    const x = e ? e.end[0] + (e.from[0] - e.end[0]) * 0.22 : Z.x + (CODE[T[2]].two ? (T[3] === 'l' ? -1 : 1) * Z.w / 4 : 0), y = Z.y - 17;
-    const p = spot(T[2] + T[3], x, y);
-    if (p) kids.push(chip(p[0], p[1], T[4], m === n ? 'new' : '', 'Token: ' + goes(T, -1), t));
+    const e = from >= 0 && ipOf(from) >= 0 && TO[TAKES[from]] === T[1] && edgeOf.get(ipOf(from) + '>' + ip + T[3]);
+    const p = spot(ip + T[3], e ? e.end[0] + (e.from[0] - e.end[0]) * 0.22 : Z.x + side(ip, T[3]), Z.y - 17);
+    if (p) kids.push(chip(p[0], p[1], T[4], from === n ? 'new' : '', 'Token: ' + goes(T, -1), t));
   }
-  s.slots.forEach((v, k) => {
-    if (v.ev < 0) return;
-    const fr = Math.floor(k / 512), t = EV[v.ev][1], T = TOK[t];
-    if (T[0] !== 'i') return;
-    if (!all && fr !== f) { rest(T[2]); return; }
-    const q = v.s, Z = place.get(T[2]), side = q[0] === 'l' || q[0] === 'r', w = side ? q[1] : q[0] === 'c' ? many(q[1], 'credit') : q[0] === 'w' ?
-        'asks ' + short(q[1]) : 'drain ' + q[1], r = rowOf.get(T[2]);
-    if (r) r.lastChild.textContent += ' [' + brief(w, 14) + ' ' + T[3] + ']';
-    if (!Z) return;
-    const p = spot('w' + T[2] + T[3], Z.x, side ? Z.y - 3 : Z.y + NH + 8);
-    if (p) kids.push(chip(p[0], p[1], w, 'wait', 'Frame ' + fr + ', slot ' + (k % 512) + ': ' + stands(q), t, side ? (q[0] === 'l' ? -1 : 1) * Z.w / 4 :
-        0));
-  });
+  const waits = [];
+  s.slots.forEach((c, k) => { const ip = c < K ? -1 : ipOf(c - K), many = crowd.get(-ip) || 0; if (ip < 0) return;
+      if ((!all && Math.floor(k / 512) !== f) || many > 15) rest(ip); else { waits.push(k); crowd.set(-ip, many + 1); } });
+  for (const k of waits.sort((a, b) => a - b)) {
+    const c = s.slots.get(k), ip = ipOf(c - K), Z = place.get(ip), T = takenBy(c - K), q = stateOf(c), word = q[0] === 'l' || q[0] === 'r';
+    const w = word ? q[1] : q[0] === 'c' ? many(q[1], 'credit') : q[0] === 'w' ? 'asks ' + short(q[1]) : 'drain ' + q[1];
+    tell(ip, '[' + brief(w, 14) + ' ' + T[3] + ']');
+    const p = Z && spot('w' + ip + T[3], Z.x, word ? Z.y - 3 : Z.y + NH + 8);
+    if (p) kids.push(chip(p[0], p[1], w, 'wait', 'Frame ' + Math.floor(k / 512) + ', slot ' + (k % 512) + ': ' + stands(q), TAKES[c - K],
+        word ? (q[0] === 'l' ? -1 : 1) * Z.w / 4 : 0));
+  }
+  told.forEach((text, r) => { r.lastChild.textContent = text; });
   others.forEach((c, ip) => { const Z = place.get(ip);
       if (Z) kids.push(sv('text', {class: 'others', x: Z.x + Z.w / 2 - 4, y: Z.y + NH + 10, 'text-anchor': 'middle'}, '+' + c)); });
   if (layer) layer.append(...kids);
