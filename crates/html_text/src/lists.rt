@@ -18,18 +18,76 @@ function info(n) {
     fill(box, close, el('h2', {}, 'Token ' + numberOf(t)), el('div', {}, el('b', {}, word(carries(T))), ' for ' + whereTo(T, -1) + '.'),
       el('div', {}, m < 0 ? D.first ? 'It was made before event ' + D.first + '.' : 'It was there at the start.' : ['Made by ', evButton(m, 'event ' + no(m)), ' ', el('span', {class: 'none'}, doing(m))]),
       el('div', {}, k === LATER ? 'It is never taken.' : ['Taken by ', evButton(k, 'event ' + no(k)), ' ', el('span', {class: 'none'}, doing(k))]));
-  } else {
-    const c = CODE[picked.ip], list = eventsOf(x => ipOf(x) === picked.ip);
-    let a = 0, b = list.length;
-    while (a < b) { const q = (a + b) >> 1; if (list[q] < n) a = q + 1; else b = q; }
-    const from = Math.max(0, a - 30), to = Math.min(list.length, from + 60);
-    fill(box, close, el('h2', {}, c.b + '.' + c.k + ' ' + c.name + ' ' + c.op), HELP[c.name] ? el('div', {class: 'none'}, HELP[c.name]) : '',
-      el('div', {}, 'goes to: ', c.d.filter(d => d).map(d => name(d.ip) + ' (' + at(d.ip) + '), ' + SIDE[d.port]).join('; ') ||
-          'no instruction of its block', c.slot === null ? '' : '; slot ' + c.slot),
-      el('div', {style: 'margin-top:.3rem'}, many(list.length, 'event'), list.length ? ': ' : '.', from ? '\u2026 ' : '',
-          list.slice(from, to).map(x => evButton(x, no(x) + ' \u00b7 frame ' + TO[TAKES[x]])), to < list.length ? ' \u2026' : ''));
+    return;
   }
+  const c = CODE[picked.ip], list = picked.of.list = picked.of.list || eventsOf(picked.of.has);
+  let a = 0, b = list.length;
+  while (a < b) { const q = (a + b) >> 1; if (list[q] < n) a = q + 1; else b = q; }
+  const from = Math.max(0, a - 30), to = Math.min(list.length, from + 60);
+  fill(box, close, el('h2', {}, c ? c.b + '.' + c.k + ' ' + c.name + ' ' + c.op : picked.of.name), c ? [HELP[c.name] ? el('div', {class: 'none'}, HELP[c.name]) : '',
+    el('div', {}, 'goes to: ', c.d.filter(d => d).map(d => name(d.ip) + ' (' + at(d.ip) + '), ' + SIDE[d.port]).join('; ') ||
+        'no instruction of its block', c.slot === null ? '' : '; slot ' + c.slot)] : '',
+    el('div', {style: 'margin-top:.3rem'}, many(list.length, 'event'), list.length ? ': ' : '.', from ? '\u2026 ' : '',
+        list.slice(from, to).map(x => evButton(x, no(x) + ' \u00b7 ' + (c ? 'frame ' + TO[TAKES[x]] : verb(x)))), to < list.length ? ' \u2026' : ''));
 }
+const verb = n => { const t = TAKES[n], type = TYPE[t]; return type === INSTR ? name(IP[t]) : type === READ ? 'read' : type === WRITE ? 'write' : type === BACK ?
+    'freed' : type === HOST ? 'host' : 'request'; };
+
+// ---- finding: the next and the last event of something. Something has a name, and a test of an event or a text that stands in its line.
+const ofInstruction = ip => ({name: name(ip) + ' (' + at(ip) + ')', has: n => ipOf(n) === ip});
+const ofFunction = b => ({name: bname(BLOCKS[b]), has: n => ipOf(n) >= 0 && CODE[ipOf(n)] && CODE[ipOf(n)].b === b});
+const isAtCell = n => { const type = TYPE[TAKES[n]]; return type === READ || type === WRITE; };
+const ofCell = x => ({name: 'cell ' + cell(x), has: n => isAtCell(n) && TO[TAKES[n]] === x});
+const ofFrame = f => ({name: 'frame ' + f, has: n => { const t = TAKES[n], c = K + n; return ((TYPE[t] === INSTR || TYPE[t] === BACK) && TO[t] === f) ||
+    ((TAG[c] === OUT || TAG[c] === HANDED) && PLACE[c] === f); }});
+function something(w) {  // what these words name
+  const m = /^(.*?)(?:\[| |\.)(\d+)\]?$/.exec(w), k = m && +m[2], array = m && ARRAYS.find(a => a.name === m[1] || a.name === 'array ' + m[1]);
+  const block = BLOCKS.find(b => b.name === w);
+  if (block) return ofFunction(block.n);
+  if (/\]$/.test(w)) return array && k < array.len ? ofCell(array.base + k) : null;
+  if (m && m[1] === 'frame') return k < D.frames ? ofFrame(k) : null;
+  if (m && m[1] === 'block') return BLOCKS[k] ? ofFunction(k) : null;
+  if (/^\d+\.\d+$/.test(w)) return BLOCKS[m[1]] && BLOCKS[m[1]].code[k] ? ofInstruction(BLOCKS[m[1]].first + k) : null;
+  if (HELP[w] || CODE.some(i => i.name === w)) return {name: w, has: n => ipOf(n) >= 0 && name(ipOf(n)) === w};
+  return /^-?\d+$/.test(w) ? {name: 'the value ' + w, text: '"' + w + '"'} : /^fault/.test(w) ? {name: w, text: '"' + w} : null;
+}
+function seek(of, n, by) {  // the first event of it from event n on, upwards or downwards; -1 where there is none
+  if (n < 0 || n >= N) return -1;
+  if (!of.text) { while (n >= 0 && n < N && !of.has(n)) n += by; return n < N ? n : -1; }
+  const k = by > 0 ? TEXT.indexOf(of.text, LINE[K + n]) : TEXT.lastIndexOf(of.text, LINE[K + n + 1] - 1);
+  let a = 0, b = N - 1;
+  while (a < b) { const m = (a + b + 1) >> 1; if (LINE[K + m] <= k) a = m; else b = m - 1; }
+  return k < LINE[K] ? -1 : a;
+}
+let found = null, lastIp = START ? IP[0] : -1, lastCell = -1;  // what the box found; the last instruction and cell of which an event was shown
+function same(n) {  // of what the next and the last event are wanted
+  const what = $('same').value;
+  if (what === 'found') return found;
+  if (what === 'frame') return ofFrame($('fsel').value === 'f' ? follow : frameOf(n));
+  if (what === 'cell') return lastCell < 0 ? {name: 'any cell', has: isAtCell} : ofCell(lastCell);
+  return !CODE[lastIp] ? null : what === 'function' ? ofFunction(CODE[lastIp].b) : ofInstruction(lastIp);
+}
+const tell = text => { $('told').textContent = text; };
+function sameStep(by) {
+  pause();
+  const of = same(pos), n = of ? seek(of, pos + by, by) : -1;
+  if (n >= 0) go(n);
+  tell(!of ? 'Nothing was found yet.' : n >= 0 ? of.name : 'No ' + (by > 0 ? 'later' : 'earlier') + ' event of ' + of.name + '.');
+}
+function find() {
+  const w = $('find').value.trim(), of = w && something(w);
+  if (!w) { tell(''); return; }
+  if (!of) { tell('Nothing here is called \u201c' + w + '\u201d.'); return; }
+  found = of; $('same').value = 'found'; pause();
+  let n = seek(of, pos + 1, 1);
+  if (n < 0) n = seek(of, 0, 1);
+  if (of.has) picked = {of: of};
+  if (n >= 0) go(n); else show();
+  tell(n < 0 ? 'No event of ' + of.name + '.' : of.name + (of.has ? ': ' + many(of.list.length, 'event') : ''));
+}
+const isQuiet = n => $('brief').checked && ipOf(n) >= 0 && CODE[ipOf(n)] && CODE[ipOf(n)].quiet;
+function nextOf(n, by) { n += by; while (n >= 0 && n < N && isQuiet(n)) n += by; return n; }
+function step(by) { pause(); go(nextOf(pos, by)); }
 function doing(n) { const t = takenBy(n); return t[0] === 'i' ? name(t[2]) + ' (' + at(t[2]) + '), frame ' + t[1] : whereTo(t, -1); }
 function lists(n, s, pool, f) {
   const c = n < 0 ? null : eventOf(n)[3], t0 = n < 0 ? -1 : TAKES[n], hit = k => c && c[0] === 's' && skey(c[1], c[2]) === k;
@@ -76,7 +134,7 @@ function lists(n, s, pool, f) {
         el('div', {class: 'cells', style: 'margin-bottom:.4rem'}, show.map(x => {
       const v = s.cells.get(x), waits = v === undefined ? [] : readersOf(v), held = v === undefined || waits.length ? '' : changeOf(v)[2];
       const conts = waits.slice(-5).map(q => word(changeOf(q)[2]));
-      return el('span', {class: 'cell' + (held ? ' full' : waits.length ? ' readers' : '') + (x === x0 ? ' hit' : ''),
+      return el('button', {on: () => choose({of: ofCell(x)}), class: 'cell' + (held ? ' full' : waits.length ? ' readers' : '') + (x === x0 ? ' hit' : ''),
           title: cell(x) + ': ' + (held || (waits.length ? many(waits.length, 'read') + ' waiting: ' + conts.join('; ') : 'empty'))}, el('small', {}, x - a.base),
           held || (waits.length ? many(waits.length, 'read waits', 'reads wait') : ''));
     }), show.length ? '' : el('span', {class: 'none'}, 'all empty'))];
@@ -118,7 +176,8 @@ const cv = $('cv'), HC = 34, LANE = Math.max(5, Math.min(14, Math.floor(72 / E))
     ZL = E === 1 ? 26 : ONE ? 38 : 20, HT = YZ + ZL * (ONE ? 1 : E) + 2, PADL = E > 1 ? 34 : 4;
 let tlw = 0, back = null, backKey = '', win = {a: 0, w: 1};
 function timeline(n) {
-  const dpr = devicePixelRatio || 1, W = tlw, css = getComputedStyle(document.documentElement), col = k => css.getPropertyValue('--' + k).trim();
+  const dpr = devicePixelRatio || 1, W = tlw, css = getComputedStyle(document.documentElement), seen = {},
+    col = k => seen[k] || (seen[k] = css.getPropertyValue('--' + k).trim());
   if (W < 50) return;
   const key = W + '/' + dpr + '/' + col('bg'), IW = W - PADL - 4;
   cv.style.height = HT + 'px';
@@ -159,11 +218,11 @@ function timeline(n) {
   for (let e = 0; e < (ONE ? 1 : E); e++) { c.fillStyle = col('soft'); c.fillRect(PADL, YZ + e * ZL, IW, ZL - 1);
       if (!ONE) { c.fillStyle = col('dim'); c.textAlign = 'left'; c.fillText('el ' + e, 2, YZ + e * ZL + ZL / 2 + 4); c.textAlign = 'center'; } }
   for (let m = a; m < Math.min(N, a + count); m++) {
-    const x = PADL + (m - a) * bw, y = YZ + (ONE ? 0 : ELEMENT[m] * ZL), mid = y + (E > 6 ? 12 : ZL / 2), t = TAKES[m];
+    const x = PADL + (m - a) * bw, y = YZ + (ONE ? 0 : ELEMENT[m] * ZL), mid = y + (E > 6 ? 12 : ZL / 2);
     c.fillStyle = col(KINDS[KIND[m]]); c.fillRect(x + 1, y, bw - 2, ZL - 1);
     c.fillStyle = col('card'); c.fillRect(x + 2.5, y + 3.5, bw - 5, ZL - 6);
     c.fillStyle = m <= n ? col('ink') : col('faint');
-    const s = TYPE[t] === INSTR ? name(IP[t]) : TYPE[t] === READ ? 'read' : TYPE[t] === WRITE ? 'write' : TYPE[t] === BACK ? 'freed' : TYPE[t] === HOST ? 'host' : 'request';
+    const s = verb(m);
     c.fillText(s.length * 6.7 > bw - 6 ? s.slice(0, Math.floor((bw - 8) / 6.7)) : s, x + bw / 2, mid + 3.5);
     if (E > 6) c.fillText('el ' + ELEMENT[m], x + bw / 2, mid + 18);
     if (m === n) { c.strokeStyle = col('defer'); c.lineWidth = 2; c.strokeRect(x + 1, y + 1, bw - 2, ZL - 3); }
@@ -183,11 +242,13 @@ addEventListener('pointerup', () => { drag = false; });
 
 // ---- moving
 let timer = null, hashing = null;
-const hashOf = () => '#event=' + (pos < 0 ? 'start' : no(pos));
+const hashOf = () => '#event=' + (pos < 0 ? 'start' : no(pos)) + ($('brief').checked ? '&without=copies' : '');
 function putHash() { hashing = null; if (location.hash !== hashOf()) try { history.replaceState(null, '', hashOf()); } catch (x) {
     location.replace(hashOf()); } }
 function setHash() { $('link').setAttribute('href', hashOf()); if (!hashing) hashing = setTimeout(putHash, 250); }
 function show() {
+  if (ipOf(pos) >= 0) lastIp = ipOf(pos);
+  if (pos >= 0 && isAtCell(pos)) lastCell = TO[TAKES[pos]];
   const n = pos, s = stateAt(n), f = $('fsel').value === 'f' ? follow : frameOf(n), pool = onTheWay(n);
   frameMenu(f);
   draw(blocksFor(n, f, s));
@@ -209,7 +270,10 @@ function play() {
   let due = performance.now();
   const tick = () => {
     const rate = +$('speed').value, now = performance.now(), k = Math.max(1, Math.floor((now - due) * rate / 1000));
-    due = now; go(pos + k);
+    let n = pos;
+    due = now;
+    for (let i = 0; i < k && n < N; i++) n = nextOf(n, 1);
+    go(n);
     if (pos >= N - 1) { pause(); return; }
     timer = setTimeout(tick, Math.max(16, 1000 / rate));
   };
@@ -218,25 +282,35 @@ function play() {
 }
 function fromHash() { const m = /event=(start|-?\d+)/.exec(location.hash); return m ? (m[1] === 'start' ? -1 : Math.min(N - 1, Math.max(-1, m[1] - D.first))) :
     null; }
-$('first').onclick = () => { pause(); go(-1); }; $('back').onclick = () => { pause(); go(pos - 1); };
-    $('next').onclick = () => { pause(); go(pos + 1); }; $('last').onclick = () => { pause(); go(N - 1); }; $('play').onclick = play;
+$('first').onclick = () => { pause(); go(-1); }; $('back').onclick = () => step(-1);
+    $('next').onclick = () => step(1); $('last').onclick = () => { pause(); go(N - 1); }; $('play').onclick = play;
 $('goto').onchange = () => { const v = $('goto').value.trim(); if (/^\d+$/.test(v)) { pause(); go(v - D.first); } $('goto').value = ''; };
+$('find').onkeydown = ev => { if (ev.key === 'Enter') find(); }; $('before').onclick = () => sameStep(-1); $('after').onclick = () => sameStep(1);
+$('brief').onchange = () => { omitted(); show(); };
 $('fsel').onchange = () => { if ($('fsel').value === 'f') follow = frameOf(pos); show(); };
 $('bsel').onchange = () => { show(); }; $('zsel').onchange = () => { scale(); show(); };
 addEventListener('keydown', ev => {
   const tag = ev.target.tagName;
-  if (ev.ctrlKey || ev.metaKey || ev.altKey || tag === 'INPUT' || tag === 'SELECT') return;
-  const act = ev.target.getAttribute && ev.target.getAttribute('role') === 'button', btn = tag === 'BUTTON' || tag === 'SUMMARY' || tag === 'A';
+  const box = tag === 'INPUT' && ev.target.type === 'checkbox';
+  if (ev.key === 'Escape' && tag === 'INPUT') { ev.target.blur(); return; }
+  if (ev.ctrlKey || ev.metaKey || ev.altKey || (tag === 'INPUT' && !box) || tag === 'SELECT') return;
+  const act = ev.target.getAttribute && ev.target.getAttribute('role') === 'button', btn = box || tag === 'BUTTON' || tag === 'SUMMARY' || tag === 'A';
   if (act && (ev.key === 'Enter' || ev.key === ' ')) { ev.target.dispatchEvent(new MouseEvent('click', {bubbles: true})); ev.preventDefault(); return;
       }
   const k = ev.key;
-  if (k === 'ArrowLeft') { pause(); go(pos - 1); } else if (k === 'ArrowRight') { pause(); go(pos + 1); } else if (k === 'Home') { pause(); go(-1);
-      } else if (k === 'End') { pause(); go(N - 1); }
+  if (k === 'ArrowLeft') step(-1); else if (k === 'ArrowRight') step(1); else if (k === 'Home') { pause(); go(-1); }
+      else if (k === 'End') { pause(); go(N - 1); }
+  else if (k === 'n') sameStep(1); else if (k === 'p') sameStep(-1); else if (k === '/') $('find').focus(); else if (k === 'g') $('goto').focus();
   else if (k === 'Escape') choose(null); else if (k === ' ' && !btn) play(); else return;
   ev.preventDefault();
 });
-addEventListener('hashchange', () => { const n = fromHash(); if (n !== null && n !== pos) { pause(); go(n); } });
-for (const b of document.querySelectorAll('#ctl [aria-label]')) b.title = b.getAttribute('aria-label');
+const isBrief = () => /without=copies/.test(location.hash);
+addEventListener('hashchange', () => {
+  const n = fromHash();
+  if (n === null || (n === pos && isBrief() === $('brief').checked)) return;
+  pause(); $('brief').checked = isBrief(); omitted(); go(n);
+});
+for (const b of document.querySelectorAll('#ctl [aria-label],#more button')) b.title = b.getAttribute('aria-label');
 const measure = () => { tlw = $('tl').clientWidth - 22; };
 addEventListener('resize', () => { measure(); scale(); timeline(pos); });
 if (matchMedia) matchMedia('(prefers-color-scheme:dark)').addEventListener('change', () => timeline(pos));
@@ -246,7 +320,8 @@ const total = BLOCKS.filter(b => b.used).reduce((a, b) => a + b.code.length, 0),
 fill($('bsel'), el('option', {value: 'run'}, 'of this run'), el('option', {value: 'follow'}, 'of the event'), el('option', {value: 'all'}, 'all'),
     BLOCKS.map(b => el('option', {value: b.n}, bname(b) + (b.used ? '' : ', not used'))));
 $('bsel').value = total <= 45 || BLOCKS.length - idle.length < 2 ? 'run' : 'follow';
-if (idle.length) $('note').textContent = (D.first ? 'Not used by these events: ' : 'Not used in this run: ') + idle.map(bname).join(', ') + '.';
+function omitted() { $('note').textContent = ($('brief').checked ? 'Copies, syncs and sends are left out. ' : '') + (!idle.length ? '' :
+    (D.first ? 'Not used by these events: ' : 'Not used in this run: ') + idle.map(bname).join(', ') + '.'); }
 $('sub').textContent = [(D.first ? 'the last ' : '') + many(N, 'event'), many(E, 'element'), many(BLOCKS.length, 'code block'), many(CODE.length, 'instruction'),
     'end: ' + END].join(' \u00b7 ');
 { const m = /^main (\S+)$/m.exec($('source').textContent); if (m) { document.title = 'Run of ' + m[1] + ': ' + END; } }
@@ -265,6 +340,8 @@ $('app').hidden = false;
 }
 frameMenu(0);
 measure();
+$('brief').checked = isBrief();
+omitted();
 const h = fromHash();
 go(h === null ? -1 : h);
 document.documentElement.setAttribute('data-ready', Math.round(performance.now()));

@@ -30,7 +30,7 @@ let MAIN = 0;
 for (const line of $('listing').textContent.split('\n')) {
   const w = line.trim().split(/\s+/);
   if (w[0] === 'ets') MAIN = +w[3];
-  else if (w[0] === 'block') BLOCKS.push({n: BLOCKS.length, first: CODE.length, ins: +w[3], outs: +w[5], slots: +w[7], code: [], name: ''});
+  else if (w[0] === 'block') BLOCKS.push({n: BLOCKS.length, first: CODE.length, ins: +w[3], outs: +w[5], slots: +w[7], code: [], name: '', view: [], lays: {}});
   else if (w[0] === 'array') ARRAYS.push({n: ARRAYS.length, len: +w[2], name: 'array ' + w[1]});
   else if (/^\d+$/.test(w[0]) && BLOCKS.length) {
     const b = BLOCKS[BLOCKS.length - 1], ip = CODE.length;
