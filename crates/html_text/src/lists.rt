@@ -47,6 +47,8 @@ function something(w) {  // what these words name
   if (/\]$/.test(w)) return array && k < array.len ? ofCell(array.base + k) : null;
   if (m && m[1] === 'frame') return k < D.frames ? ofFrame(k) : null;
   if (m && m[1] === 'block') return BLOCKS[k] ? ofFunction(k) : null;
+  if (m && m[1] === 'cell') return k < CELLS ? ofCell(k) : null;
+  if (m && m[1] === 'output') return {name: w, has: n => TYPE[TAKES[n]] === HOST && TO[TAKES[n]] === k};
   if (/^\d+\.\d+$/.test(w)) return BLOCKS[m[1]] && BLOCKS[m[1]].code[k] ? ofInstruction(BLOCKS[m[1]].first + k) : null;
   if (HELP[w] || CODE.some(i => i.name === w)) return {name: w, has: n => ipOf(n) >= 0 && name(ipOf(n)) === w};
   return /^-?\d+$/.test(w) ? {name: 'the value ' + w, text: '"' + w + '"'} : /^fault/.test(w) ? {name: w, text: '"' + w} : null;
@@ -246,7 +248,14 @@ const hashOf = () => '#event=' + (pos < 0 ? 'start' : no(pos)) + ($('brief').che
 function putHash() { hashing = null; if (location.hash !== hashOf()) try { history.replaceState(null, '', hashOf()); } catch (x) {
     location.replace(hashOf()); } }
 function setHash() { $('link').setAttribute('href', hashOf()); if (!hashing) hashing = setTimeout(putHash, 250); }
+function focusPlace() {  // the focus stays at its place in a list that is made again
+  const e = document.activeElement, box = e && e.closest('#info,#frames,#cells,#reqs,#toks'), of = () => [...box.querySelectorAll('button')];
+  if (!box) return null;
+  const k = of().indexOf(e);
+  return () => { const all = of(), to = all[Math.min(k, all.length - 1)]; if (k >= 0 && to && !box.hidden) to.focus({preventScroll: true}); };
+}
 function show() {
+  const refocus = focusPlace();
   if (ipOf(pos) >= 0) lastIp = ipOf(pos);
   if (pos >= 0 && isAtCell(pos)) lastCell = TO[TAKES[pos]];
   const n = pos, s = stateAt(n), f = $('fsel').value === 'f' ? follow : frameOf(n), pool = onTheWay(n);
@@ -259,6 +268,7 @@ function show() {
   $('first').disabled = $('back').disabled = n < 0; $('next').disabled = $('last').disabled = n >= N - 1;
   const focus = marks(n, s, pool, f);
   lists(n, s, pool, f); info(n); timeline(n); setHash();
+  if (refocus) refocus();
   reveal(focus, ipOf(n));
 }
 function go(n) { n = Math.max(-1, Math.min(N - 1, Math.trunc(n))); if (n !== n) return; pos = n; show(); }

@@ -26,7 +26,7 @@ const TEXT = $('data').textContent, HEAD = TEXT.indexOf('"changes":[') + 11, AFT
 let D;
 try { D = JSON.parse(TEXT.slice(0, HEAD) + TEXT.slice(AFTER, BODY) + ']}'); } catch (x) { fail('The data cannot be read: ' + x.message); return; }
 const CODE = [], BLOCKS = [], ARRAYS = [];
-let MAIN = 0;
+let MAIN = 0, CELLS = 0;
 for (const line of $('listing').textContent.split('\n')) {
   const w = line.trim().split(/\s+/);
   if (w[0] === 'ets') MAIN = +w[3];
@@ -51,8 +51,7 @@ for (const line of $('listing').textContent.split('\n')) {
   const all = names.concat(names.filter(n => loops.has(n)).map(n => n + ', an iteration'));
   if (all.length === BLOCKS.length) BLOCKS.forEach((b, i) => { b.name = all[i]; });
   if (arrays.length === ARRAYS.length) ARRAYS.forEach((a, i) => { a.name = arrays[i]; });
-  let x = 0;
-  for (const a of ARRAYS) { a.base = x; x += a.len; }
+  for (const a of ARRAYS) { a.base = CELLS; CELLS += a.len; }
 }
 for (const i of CODE) for (const d of i.d) if (d && d.port === 'r' && CODE[d.ip]) CODE[d.ip].two = true;
 const bname = b => 'block ' + b.n + (b.name ? ' (' + b.name + ')' : '');
