@@ -13,3 +13,4 @@ pub mod PipedRuns
 mod Sufficing
 mod EnoughRuns
 pub mod FileInputs
+pub mod FileRuns

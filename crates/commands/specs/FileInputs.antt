@@ -1,8 +1,11 @@
 -- WHAT A COMMAND READS OF A FILE that the words name, and what it prints of it. Inputs among the words are in place of those in the file.
 use Rattle.std.specs.Prelude.{◌≡◌, ◌⊎◌, ℕ, Bool, true, false, List, ◌++◌, take, Option, Result, if◌then◌else◌}
+use Rattle.std.specs.declared.io.Error.{Error}
 use Rattle.semantics.specs.Graph.{Graph}
 use Rattle.semantics.specs.Text.{text_of}
+use Rattle.command_line.specs.Words.{no_inputs}
 use Rattle.command_line.specs.declared.Request.{Request}
+use Rattle.command_line.specs.declared.RunOptions.{RunOptions}
 use Rattle.command_line.specs.declared.inputs.Inputs.{Inputs}
 use Rattle.source.specs.Tokens.{inputs_of}
 use Rattle.source.specs.Tree.{Program}
@@ -18,6 +21,7 @@ use Rattle.commands.specs.Input.{graph_length}
 use Rattle.commands.specs.Refusals.{unlowered_as}
 use Rattle.commands.specs.Served.{Refuses}
 use Rattle.commands.specs.Answered.{Answers}
+use Rattle.commands.specs.Piped.{PrintsProgramRun}
 
 -- the text of the graph with which these bytes begin
 abbrev pub graph_part : List ℕ → List ℕ
@@ -74,3 +78,11 @@ abbrev pub AnswersFile : {E : Type 0} → Result Outcome E → Option (List ℕ)
 AnswersFile result old new bytes request ins =
     ((input : List ℕ) × IsInputOf request ins bytes input × Answers result old new input request)
     ⊎ ((f : Refusal) × IsNoInputOf request bytes f × Refuses result old new f)
+
+-- RUNS OF A PROGRAM that a file has, without inputs among the words: what is printed is the report, or the refusal, of a run of the graph that the program
+-- is lowered to, on the inputs that follow it. That is the run of which the promise of a program's report speaks (`ReportsProgram`, in `programs`).
+abbrev pub FilesRunPrograms : Type 0
+FilesRunPrograms = (text : List ℕ) (o : RunOptions) (result : Result Outcome Error) (old new : Option (List ℕ)) → content_of text ≡ Content.Program
+    → AnswersFile result old new text (Request.Run o) no_inputs
+    → ((p : Program) × (g : Graph) × Lowers text p g × PrintsProgramRun result old new text g o)
+    ⊎ ((f : Refusal) × IsNoInputOf (Request.Run o) text f × Refuses result old new f)

@@ -8,7 +8,7 @@ ghost use Rattle.files.specs.declared.content.Reads.{Reads};
 ghost use Rattle.outcomes.specs.declared.refusal.Refusal.{Refusal};
 ghost use Rattle.commands.specs.Served.{Refuses};
 ghost use Rattle.commands.specs.Answered.{Answers};
-ghost use Rattle.commands.specs.FileInputs.{IsInputOf, IsLowered, IsNoInput, IsNoInputOf, IsOfGraph, IsOfProgram, followed, graph_part};
+ghost use Rattle.commands.specs.FileInputs.{FilesRunPrograms, IsInputOf, IsLowered, IsNoInput, IsNoInputOf, IsOfGraph, IsOfProgram, followed, graph_part};
 
 use crate::input::split_at_main;
 use crate::refusal::lower_refusal;
@@ -196,3 +196,9 @@ pub fn answer_input<
         Err(refusal) => refuse(writer, refusal),
     }
 }
+
+/// `run` of a file that has a program runs the graph that the program is lowered to, on the inputs that follow the program: what it
+/// prints is the report of which the promise of a program's report speaks.
+pub fn files_run_programs()
+    ensures { FilesRunPrograms }
+{}
