@@ -20,20 +20,23 @@ const many = (n, one, more) => (n ? n.toLocaleString('en') : 'no') + ' ' + (n ==
 function fail(m) { $('app').hidden = false; $('bad').hidden = false; $('bad').append(m + ' '); }
 
 // ---- the static part stands as text in the page
+// The events stay text, each on a line, and are read as objects only where they are shown.
+const TEXT = $('data').textContent, HEAD = TEXT.indexOf('"changes":[') + 11, AFTER = TEXT.indexOf('],"next":', HEAD),
+    BODY = TEXT.indexOf('"events":[', AFTER) + 10;
 let D;
-try { D = JSON.parse($('data').textContent); } catch (x) { fail('The data cannot be read: ' + x.message); return; }
+try { D = JSON.parse(TEXT.slice(0, HEAD) + TEXT.slice(AFTER, BODY) + ']}'); } catch (x) { fail('The data cannot be read: ' + x.message); return; }
 const CODE = [], BLOCKS = [], ARRAYS = [];
-let MAIN = 0;
+let MAIN = 0, CELLS = 0;
 for (const line of $('listing').textContent.split('\n')) {
   const w = line.trim().split(/\s+/);
   if (w[0] === 'ets') MAIN = +w[3];
-  else if (w[0] === 'block') BLOCKS.push({n: BLOCKS.length, first: CODE.length, ins: +w[3], outs: +w[5], slots: +w[7], code: [], name: ''});
+  else if (w[0] === 'block') BLOCKS.push({n: BLOCKS.length, first: CODE.length, ins: +w[3], outs: +w[5], slots: +w[7], code: [], name: '', view: [], lays: {}});
   else if (w[0] === 'array') ARRAYS.push({n: ARRAYS.length, len: +w[2], name: 'array ' + w[1]});
   else if (/^\d+$/.test(w[0]) && BLOCKS.length) {
     const b = BLOCKS[BLOCKS.length - 1], ip = CODE.length;
     const d = s => s === '-' ? null : {ip: ip + parseInt(s.slice(1), 10), port: s[s.length - 1]};
     const i = {ip: ip, b: b.n, k: +w[0], name: w[1], slot: w[2] === '-' ? null : +w[2], d: [d(w[3]), d(w[4])], op: w[5] === '-' ? '' : w[5], two: false,
-        ev: []};
+        quiet: /^(copy|sync|send)$/.test(w[1])};
     b.code.push(i); CODE.push(i);
   }
 }
@@ -48,8 +51,7 @@ for (const line of $('listing').textContent.split('\n')) {
   const all = names.concat(names.filter(n => loops.has(n)).map(n => n + ', an iteration'));
   if (all.length === BLOCKS.length) BLOCKS.forEach((b, i) => { b.name = all[i]; });
   if (arrays.length === ARRAYS.length) ARRAYS.forEach((a, i) => { a.name = arrays[i]; });
-  let x = 0;
-  for (const a of ARRAYS) { a.base = x; x += a.len; }
+  for (const a of ARRAYS) { a.base = CELLS; CELLS += a.len; }
 }
 for (const i of CODE) for (const d of i.d) if (d && d.port === 'r' && CODE[d.ip]) CODE[d.ip].two = true;
 const bname = b => 'block ' + b.n + (b.name ? ' (' + b.name + ')' : '');
@@ -63,77 +65,170 @@ const HELP = {sync: 'Waits for both tokens, then sends a signal (0).', switch: '
       give: 'Gets a credit back from an iteration that is over.', drain: 'Waits until all credits of the loop are back.',
       release: 'Gives the frame back, and tells so.'};
 
-// ---- tokens and events have places here, from 0 on: first the tokens that are there before the first event, then all that are made, in order
-const EV = D.events, N = EV.length, E = D.elements, TOK = [], MADE = [], FIRST = new Int32Array(N + 2);
-for (const t of D.start) { TOK.push(t); MADE.push(-1); }
-const START = TOK.length, PLACE = new Map(D.numbers.map((k, i) => [k, i]));
-const no = n => D.first + n, numberOf = t => t < START ? D.numbers[t] : D.next + t - START;
-for (const ev of EV) ev[1] = ev[1] >= D.next ? START + ev[1] - D.next : PLACE.get(ev[1]);
-for (let n = 0; n < N; n++) { FIRST[n] = TOK.length; for (const t of EV[n][4]) { TOK.push(t); MADE.push(n); } }
-FIRST[N] = FIRST[N + 1] = TOK.length;
-const TAKEN = new Int32Array(TOK.length).fill(LATER), COUNT = new Int32Array(N + 1);
-COUNT[0] = START;
-let TOP = START;
-for (let n = 0; n < N; n++) {
-  const t = EV[n][1], T = TOK[t];
-  if (!T || TAKEN[t] !== LATER || MADE[t] >= n) { fail('Event ' + no(n) + ' takes a token that is not there.'); return; }
-  TAKEN[t] = n;
-  COUNT[n + 1] = COUNT[n] - 1 + EV[n][4].length;
-  if (COUNT[n + 1] > TOP) TOP = COUNT[n + 1];
-  if (T[0] === 'i' && CODE[T[2]]) { CODE[T[2]].ev.push(n); BLOCKS[CODE[T[2]].b].used = true; }
+// ---- the events are read once, from end to end. Of each event, change and token a few numbers are kept. Tokens are counted here from 0 on: first
+// those that are there before the first event, then all that are made, in order. Changes are those of the earlier events, then those of the events.
+let BYTES = new TextEncoder().encode(TEXT), here = HEAD, made = 0;
+function lines(from, to) { let k = 0; for (let i = from; i < to; i++) if (BYTES[i] === 10) k++; return k; }
+const E = D.elements, K = lines(HEAD, AFTER), N = lines(BODY, BYTES.length) - 1, START = D.start.length, no = n => D.first + n;
+const LINE = new Int32Array(K + N + 1);  // where in the text a change or an event begins
+const TAG = new Uint8Array(K + N), PLACE = new Int32Array(K + N), WAS = new Int32Array(K + N), HOLDS = new Uint8Array(K + N);
+// of a change: its letter, what it changes, the change of that before, and the letter of the state that a slot has then
+const ELEMENT = new Uint16Array(N), TAKES = new Int32Array(N), KIND = new Uint8Array(N), FIRST = new Int32Array(N + 2);
+let TYPE = new Uint8Array(START + 2 * N + 64), TO = new Int32Array(TYPE.length), IP = new Int32Array(TYPE.length), MADE = new Int32Array(TYPE.length),
+    TAKEN = new Int32Array(TYPE.length);
+const letter = s => s.charCodeAt(0), INSTR = letter('i'), READ = letter('r'), WRITE = letter('w'), BACK = letter('b'), HOST = letter('h');
+const SLOT = letter('s'), EMPTIED = letter('e'), FILLED = letter('v'), READER = letter('+'), OUT = letter('o'), FREED = letter('f'), QUEUED = letter('q'),
+    HANDED = letter('h'), OUTPUT = letter('p'), CREDITS = letter('c'), ASKS = letter('w'), NONE = -2;
+const KINDS = ['fired', 'waited', 'memory', 'defer', 'manager', 'host'], KIND_OF = new Uint8Array(65536);
+['fi', 'wa', 'an st se', 'de qu', 'gi fr ha', 'ar'].forEach((list, k) => { for (const w of list.split(' ')) KIND_OF[letter(w) * 256 + w.charCodeAt(1)] = k; });
+function pass(c) { let i = here; while (BYTES[i] !== c && i < BYTES.length) i++; here = i + 1; }
+function number() { let x = 0, i = here, c = BYTES[i]; while (c > 47 && c < 58) { x = 10 * x + c - 48; c = BYTES[++i]; } here = i; return x; }
+function readChange(k) {
+  if (BYTES[here] !== 91) { here += 4; return; }
+  let tag = BYTES[here + 2];
+  here += 5;
+  if (tag !== QUEUED) PLACE[k] = number();
+  if (tag === SLOT) {
+    here++; PLACE[k] = skey(PLACE[k], number()); here++;
+    if (BYTES[here] !== 91) tag = EMPTIED; else { HOLDS[k] = BYTES[here + 2]; pass(93); }
+  }
+  pass(93);
+  TAG[k] = tag;
 }
-// A block is used where a token is for it. Main's code is shown where none is.
-for (const t of D.start) if (t[0] === 'i' && CODE[t[2]]) BLOCKS[CODE[t[2]].b].used = true;
-if (!BLOCKS.some(b => b.used)) BLOCKS[MAIN].used = true;
-const born = n => n < 0 ? START : FIRST[n + 1];  // how many tokens there have been after event n
+function grow() {
+  const longer = a => { const b = new a.constructor(2 * a.length); b.set(a); return b; };
+  TYPE = longer(TYPE); TO = longer(TO); IP = longer(IP); MADE = longer(MADE); TAKEN = longer(TAKEN);
+}
+function enter(type, to, ip, n) {  // a token that event n makes
+  if (made === TYPE.length) grow();
+  TYPE[made] = type; TO[made] = to; IP[made] = ip; MADE[made] = n; TAKEN[made++] = LATER;
+  if (ip >= 0 && CODE[ip]) {  // a frame belongs to the block that its tokens are for
+    BLOCKS[CODE[ip].b].used = true;
+    if (unowned.size && unowned.has(to)) { OWNER.set(unowned.get(to), [CODE[ip].b, n]); unowned.delete(to); }
+  }
+}
+function readTokens(n) {
+  while (BYTES[here] === 91 || BYTES[here] === 44) {
+    if (BYTES[here] === 44) here++;
+    const type = BYTES[here + 2];
+    here += 5;
+    const to = type === QUEUED ? 0 : number();
+    if (type === INSTR) here++;
+    enter(type, to, type === INSTR ? number() : -1, n);
+    pass(93);
+  }
+}
+function readEvent(n) {
+  pass(10);
+  LINE[K + n] = here++;
+  ELEMENT[n] = number(); here++;
+  const k = number(), t = TAKES[n] = k >= D.next ? START + k - D.next : EARLY.get(k);
+  if (t === undefined || t >= made || TAKEN[t] !== LATER) return false;
+  TAKEN[t] = n; FIRST[n] = made; here += 2;
+  KIND[n] = KIND_OF[BYTES[here] * 256 + BYTES[here + 1]];
+  pass(34); here++;
+  readChange(K + n);
+  if (HOLDS[K + n] === CREDITS) KIND[n] = 0;
+  here += 2;
+  return true;
+}
 
-// ---- the state. Values are never changed in place, so that copies are cheap.
-const REQ = [];  // all requests that ever queued, each with its event
-const BEFORE = new Array(N);  // what stood at the place that an event changed
-function fresh() { return {slots: new Map(), cells: new Map(), out: new Map(), outs: new Map(), qh: 0, qt: 0}; }
-function copy(s) { return {slots: new Map(s.slots), cells: new Map(s.cells), out: new Map(s.out), outs: new Map(s.outs), qh: s.qh, qt: s.qt}; }
-function settle(s, toks) {  // a frame belongs to the block that its tokens are for
-  for (const t of toks) if (t[0] === 'i') { const o = s.out.get(t[1]); if (o && o.b < 0 && CODE[t[2]]) s.out.set(t[1], {b: CODE[t[2]].b, ev: o.ev}); }
-}
-const skey = (f, r) => f * 512 + r;
-function change(s, c, n, note) {  // gives what stood there
-  let was;
-  switch (c[0]) {
-    case 's': { const k = skey(c[1], c[2]); was = s.slots.get(k); if (c[3]) s.slots.set(k, {s: c[3], ev: n}); else s.slots.delete(k); break; }
-    case 'v': was = s.cells.get(c[1]); s.cells.set(c[1], {v: c[2], ev: n, n: 0}); break;
-    case '+': was = s.cells.get(c[1]); s.cells.set(c[1], {more: was, cont: c[2], ev: n, n: (was ? was.n : 0) + 1}); break;
-    case 'o': s.out.set(c[1], {b: -1, ev: n}); break;
-    case 'f': was = s.out.get(c[1]); s.out.delete(c[1]); break;
-    case 'q': if (note) REQ.push([c[1], n]); s.qt++; break;
-    case 'h': was = s.out.get(c[1]); s.out.set(c[1], {b: -1, ev: n}); s.qh++; break;
-    case 'p': s.outs.set(c[1], {v: c[2], ev: n}); break;
+// ---- the state: of each place that is not as at the start, the last change
+const skey = (f, r) => f * 512 + r, SNAP = [], REQ = [];  // copies of the state; the changes by which requests queued
+const OWNER = new Map(), unowned = new Map();  // by the change that gives a frame out: its block, and the event that shows it. Frame 0 has change -1
+const fresh = () => ({slots: new Map(), cells: new Map(), out: new Map(), outs: new Map(), queued: 0, served: 0});
+function storeOf(s, tag) {
+  switch (tag) {
+    case SLOT: case EMPTIED: return s.slots;
+    case FILLED: case READER: return s.cells;
+    case OUT: case FREED: case HANDED: return s.out;
+    case OUTPUT: return s.outs;
   }
-  return was;
 }
-function apply(s, n, note) {
-  const ev = EV[n], was = ev[3] ? change(s, ev[3], n, note) : undefined;
-  settle(s, ev[4]);
-  if (note) BEFORE[n] = was;
+function apply(s, c) {
+  const tag = TAG[c], store = storeOf(s, tag);
+  if (store) if (tag === EMPTIED || tag === FREED) store.delete(PLACE[c]); else store.set(PLACE[c], c);
+  if (tag === QUEUED) s.queued++; else if (tag === HANDED) s.served++;
 }
-const weight = s => s.slots.size + s.cells.size + s.out.size + s.outs.size, SNAP = [];
-{
+function undo(s, c) {
+  const tag = TAG[c], store = storeOf(s, tag);
+  if (store) if (WAS[c] === NONE) store.delete(PLACE[c]); else store.set(PLACE[c], WAS[c]);
+  if (tag === QUEUED) s.queued--; else if (tag === HANDED) s.served--;
+}
+function note(s, c) {  // a change that is read
+  const tag = TAG[c], store = storeOf(s, tag), was = store && store.get(PLACE[c]);
+  WAS[c] = was === undefined ? NONE : was;
+  if (tag === QUEUED) REQ.push(c); else if (tag === OUT || tag === HANDED) unowned.set(PLACE[c], c); else if (tag === FREED) unowned.delete(PLACE[c]);
+  apply(s, c);
+}
+const STORES = ['slots', 'cells', 'out', 'outs'], weight = s => s.slots.size + s.cells.size + s.out.size + s.outs.size;
+function keep(n, s) {
+  const flat = new Int32Array(2 * weight(s)), sizes = STORES.map(k => s[k].size);
+  let i = 0;
+  for (const k of STORES) s[k].forEach((c, p) => { flat[i++] = p; flat[i++] = c; });
+  SNAP.push({n: n, flat: flat, sizes: sizes, queued: s.queued, served: s.served});
+}
+function restore(from) {
   const s = fresh();
-  for (const f of D.out) s.out.set(f, {b: -1, ev: -1});
-  for (const c of D.changes) if (c) change(s, c, -1, true);
-  settle(s, D.start);
-  let last = -1;
-  SNAP.push({n: -1, s: copy(s)});
-  for (let n = 0; n < N; n++) { apply(s, n, true); if (n - last >= Math.max(500, weight(s) / 2)) { SNAP.push({n: n, s: copy(s)}); last = n; } }
+  let i = 0;
+  STORES.forEach((k, x) => { for (let left = from.sizes[x]; left > 0; left--, i += 2) s[k].set(from.flat[i], from.flat[i + 1]); });
+  s.queued = from.queued; s.served = from.served;
+  return {n: from.n, s: s};
 }
-let cur = {n: -1, s: copy(SNAP[0].s)};
+const EARLY = new Map(D.numbers.map((k, i) => [k, i])), EVERY = 2048;
+let TOP = START, cur = {n: -1, s: fresh()};
+for (const f of D.out) { cur.s.out.set(f, -1); unowned.set(f, -1); }
+for (let c = 0; c < K; c++) { pass(10); LINE[c] = here; readChange(c); note(cur.s, c); }
+for (const t of D.start) enter(letter(t[0]), t[0] === 'q' ? 0 : t[1], t[0] === 'i' ? t[2] : -1, -1);
+keep(-1, cur.s);
+here = BODY;
+for (let n = 0; n < N; n++) {
+  if (!readEvent(n)) { fail('Event ' + no(n) + ' takes a token that is not there.'); return; }
+  note(cur.s, K + n);
+  readTokens(n);
+  if (made - n - 1 > TOP) TOP = made - n - 1;
+  cur.n = n;
+  if (n - SNAP[SNAP.length - 1].n >= Math.max(EVERY, weight(cur.s))) keep(n, cur.s);
+}
+pass(10);
+LINE[K + N] = here + 1; FIRST[N] = FIRST[N + 1] = made; BYTES = null;
+const ALL = made;  // all tokens
+if (!BLOCKS.some(b => b.used)) BLOCKS[MAIN].used = true;  // Main's code is shown where no token is for any
 function stateAt(n) {
-  if (cur.n > n || n - cur.n > 500) {
-    let a = 0, b = SNAP.length - 1;
-    while (a < b) { const m = (a + b + 1) >> 1; if (SNAP[m].n <= n) a = m; else b = m - 1; }
-    if (cur.n > n || SNAP[a].n > cur.n) cur = {n: SNAP[a].n, s: copy(SNAP[a].s)};
-  }
-  while (cur.n < n) apply(cur.s, ++cur.n, false);
+  let a = 0, b = SNAP.length - 1;
+  while (a < b) { const m = (a + b + 1) >> 1; if (SNAP[m].n <= n) a = m; else b = m - 1; }
+  if (Math.abs(n - cur.n) > n - SNAP[a].n + SNAP[a].flat.length / 2) cur = restore(SNAP[a]);
+  while (cur.n < n) apply(cur.s, K + ++cur.n);
+  while (cur.n > n) undo(cur.s, K + cur.n--);
   return cur.s;
+}
+
+// ---- what is read again where it is shown
+const SEEN = new Map();
+function lineOf(c) {
+  let v = SEEN.get(c);
+  if (v !== undefined) return v;
+  if (SEEN.size > 9999) SEEN.clear();
+  v = JSON.parse(TEXT.slice(LINE[c], c === K - 1 ? AFTER : LINE[c + 1] - 2));
+  SEEN.set(c, v);
+  return v;
+}
+const eventOf = n => lineOf(K + n), changeOf = c => c < K ? lineOf(c) : lineOf(c)[3];
+const tokenOf = t => t < START ? D.start[t] : eventOf(MADE[t])[4][t - FIRST[MADE[t]]], takenBy = n => tokenOf(TAKES[n]);
+const numberOf = t => t < START ? D.numbers[t] : D.next + t - START;
+const born = n => n < 0 ? START : FIRST[n + 1];  // how many tokens there have been after event n
+const ipOf = n => n < 0 ? -1 : IP[TAKES[n]], stateOf = c => c < 0 ? null : changeOf(c)[3];
+const blockOf = (c, n) => { const o = OWNER.get(c); return o && o[1] <= n ? BLOCKS[o[0]] : null; };  // of a frame that this change gave out
+function readersOf(c) { const list = []; for (; c >= 0 && TAG[c] === READER; c = WAS[c]) list.push(c); return list.reverse(); }
+const LAST = new Int32Array((ALL >> 10) + 1);  // of each 1,024 tokens, when the last is taken
+for (let t = 0; t < ALL; t++) if (TAKEN[t] > LAST[t >> 10]) LAST[t >> 10] = TAKEN[t];
+function onTheWay(n) {
+  const pool = [], end = born(n);
+  for (let t = 0; t < end; t++) {
+    while (LAST[t >> 10] <= n && t < end) t = ((t >> 10) + 1) << 10;
+    if (t < end && TAKEN[t] > n) pool.push(t);
+  }
+  return pool;
 }
 
 // ---- words in words
@@ -184,14 +279,14 @@ function stands(s) {
   }
 }
 function frameOf(n) {  // the frame that an event is of, or that its token came from
-  for (let k = 0; n >= 0 && k < 40; k++) { const t = TOK[EV[n][1]]; if (t[0] === 'i') return t[1]; n = MADE[EV[n][1]]; }
+  for (let k = 0; n >= 0 && k < 40; k++) { const t = TAKES[n]; if (TYPE[t] === INSTR) return TO[t]; n = MADE[t]; }
   return START && D.start[0][0] === 'i' ? D.start[0][1] : 0;
 }
 function sentence(n) {
   if (n < 0) return ['Before ' + (D.first ? 'event ' + D.first : 'the first event') + ': ', many(START, 'token'), START === 1 ? ' is' : ' are',
       ' on the way: ', D.start.slice(0, 18).map(t => word(carries(t)) + ' to ' + whereTo(t, D.first ? -1 : t[1])).join('; '), START > 18 ?
       '; and ' + (START - 18) + ' more.' : '.'];
-  const [e, k, deed, c, made] = EV[n], t = TOK[k], b = s => el('b', {}, s), out = [], was = BEFORE[n], f = t[0] === 'i' ? t[1] : -1;
+  const [e, , , c, made] = eventOf(n), t = takenBy(n), b = s => el('b', {}, s), out = [], was = WAS[K + n], f = t[0] === 'i' ? t[1] : -1;
   out.push(b('Event ' + no(n)), ', element ' + e);
   switch (t[0]) {
     case 'i': {
@@ -200,7 +295,7 @@ function sentence(n) {
           ' on its ' + SIDE[t[3]] + ' port' : '');
       if (i && /^[rl]#/.test(i.op)) out.push(', and has ' + i.op.slice(2) + ' as its ' + SIDE[i.op[0]] + ' operand');
       if (c && c[0] === 's') {
-        const p = was && was.s, q = c[3], side = x => x && (x[0] === 'l' || x[0] === 'r');
+        const p = stateOf(was), q = c[3], side = x => x && (x[0] === 'l' || x[0] === 'r');
         if (side(q) && !p) out.push('; slot ' + c[2] + ' was empty, so it waits there, on the ' + SIDE[q[0]]);
         else if (side(p) && !q) out.push('; ', b(word(p[1])), ' waited on the ' + SIDE[p[0]] + ' in slot ' + c[2] + '; the slot is empty again');
         else out.push('; slot ' + c[2] + (p ? ' had ' + stands(p) : ' was empty') + ', and now ' + (q ? 'has ' + stands(q) : 'is empty again'));
@@ -208,10 +303,10 @@ function sentence(n) {
       break;
     }
     case 'r': out.push(': cell ', b(cell(t[1])), ' is read');
-      if (c) out.push('; it is empty, so the read waits there' + (was ? ', behind ' + many(was.n, 'other') : ''), '; the answer is for ' + word(t[2]));
+      if (c) out.push('; it is empty, so the read waits there' + (was >= 0 ? ', behind ' + many(readersOf(was).length, 'other') : ''), '; the answer is for ' + word(t[2]));
       else out.push('; it is full'); break;
-    case 'w': out.push(': ', b(t[2]), ' is written to cell ', b(cell(t[1])));
-      out.push(was && was.n ? '; ' + many(was.n, 'read that waited is', 'reads that waited are') + ' answered' : '; no read waited'); break;
+    case 'w': { const waited = readersOf(was).length; out.push(': ', b(t[2]), ' is written to cell ', b(cell(t[1])));
+      out.push(waited ? '; ' + many(waited, 'read that waited is', 'reads that waited are') + ' answered' : '; no read waited'); break; }
     case 'q': out.push(': the ', b('frame manager'), ' is asked for a frame, for ' + word(t[1]));
       out.push(c && c[0] === 'q' ? '; none is free, so the request waits' : c ? '; frame ' + c[1] + ' is in use from now on' : ''); break;
     case 'b': out.push(': the ', b('frame manager'), ' gets frame ' + t[1] + ' back');

@@ -4,12 +4,24 @@
 pub(crate) const PICTURE: &[u8] =
     br##"// ---- layout: layers by longest path, dummies, barycentre order, places by isotonic regression
 const LH = 68, NH = 36, GAP = 16;
+const isLeft = c => $('brief').checked && c.quiet && c.k > BLOCKS[c.b].ins;  // left out of the picture
+function leads(c) {  // where its tokens go, through what is left out
+  const list = [], met = new Set();
+  const add = (d, k) => {
+    if (!d || !CODE[d.ip] || met.has(d.ip + d.port)) return;
+    met.add(d.ip + d.port);
+    if (isLeft(CODE[d.ip])) CODE[d.ip].d.forEach(x => add(x, k)); else list.push({ip: d.ip, port: d.port, k: k});
+  };
+  c.d.forEach(add);
+  return list;
+}
+const reach = (ip, port) => CODE[ip] && isLeft(CODE[ip]) ? leads(CODE[ip]) : [{ip: ip, port: port}];
 function layout(b) {
-  const code = b.code, n = code.length, o = b.first, L = new Array(n).fill(0), fed = new Array(n).fill(false), edges = [];
+  const code = b.view, n = code.length, index = new Map(code.map((c, i) => [c.ip, i])), L = new Array(n).fill(0), fed = new Array(n).fill(false), edges = [];
   for (let i = 0; i < n; i++) {
     if (!fed[i] && i > b.ins) L[i] = Math.max(L[i - 1], 1);  // a landing place stands beside the one before it
-    code[i].d.forEach((d, k) => { const j = d ? d.ip - o : -1; if (j > i && j < n) { fed[j] = true; L[j] = Math.max(L[j], L[i] + 1);
-        edges.push({a: i, z: j, k: k, port: d.port}); } });
+    for (const d of leads(code[i])) { const j = index.get(d.ip); if (j > i) { fed[j] = true; L[j] = Math.max(L[j], L[i] + 1);
+        edges.push({a: i, z: j, k: d.k, port: d.port}); } }
   }
   const ins = new Array(n).fill(0), outs = new Array(n).fill(0), low = new Array(n).fill(LATER);
   for (const e of edges) { ins[e.z]++; outs[e.a]++; }
@@ -75,11 +87,11 @@ function layout(b) {
       for (const p of pools) for (const v of p.vs) v.x = p.s / p.w + v.off;
     }
   }
-  const reach = v => { const a = rows[v.row][v.p - 1], z = rows[v.row][v.p + 1];
+  const room = v => { const a = rows[v.row][v.p - 1], z = rows[v.row][v.p + 1];
       return [a ? a.x + (a.w + v.w) / 2 + 4 : -Infinity, z ? z.x - (z.w + v.w) / 2 - 4 : Infinity]; };
   for (const e of edges) for (let k = 1; k < e.path.length - 1;) {  // straighten the bends of long edges, as far as there is room
     let lo = -Infinity, hi = Infinity, j = k, sum = 0;
-    while (j < e.path.length - 1) { const [a, z] = reach(e.path[j]); if (Math.max(lo, a) > Math.min(hi, z)) break; lo = Math.max(lo, a);
+    while (j < e.path.length - 1) { const [a, z] = room(e.path[j]); if (Math.max(lo, a) > Math.min(hi, z)) break; lo = Math.max(lo, a);
         hi = Math.min(hi, z); sum += e.path[j++].x; }
     if (j === k) { k++; continue; }
     const x = Math.min(hi, Math.max(lo, sum / (j - k)));
@@ -96,17 +108,18 @@ const BIG = 200;
 let shown = [], place = new Map(), edgeOf = new Map(), layer = null, svg = null, size = {w: 0, h: 0}, drawn = '', rowOf = new Map();
 const farOf = new Map();
 function draw(list) {
-  const key = list.map(b => b.n).join();
+  const key = list.map(b => b.n).join() + $('brief').checked;
+  for (const b of list) { b.view = b.code.filter(c => !isLeft(c)); b.lay = b.lays[$('brief').checked]; }
   if (key === drawn) return;
-  drawn = key; shown = list; place = new Map(); edgeOf = new Map(); farOf.clear(); rowOf = new Map();
-  const small = list.filter(b => b.code.length <= BIG), big = list.filter(b => b.code.length > BIG), g = [];
+  drawn = key; shown = list; place = new Map(); edgeOf = new Map(); farOf.clear(); rowOf = new Map(); told.clear();
+  const small = list.filter(b => b.view.length <= BIG), big = list.filter(b => b.view.length > BIG), g = [];
   let x = 10, y = 10, rowh = 0, W = 0;
-  const room = Math.max(900, ...small.map(b => (b.lay = b.lay || layout(b)).w + 20));
+  const room = Math.max(900, ...small.map(b => (b.lay = b.lays[$('brief').checked] = b.lay || layout(b)).w + 20));
   for (const b of small) {
     const l = b.lay;
     if (x > 10 && x + l.w > room * 1.6) { x = 10; y += rowh + 14; rowh = 0; }
     b.x = x; b.y = y; x += l.w + 14; rowh = Math.max(rowh, l.h); W = Math.max(W, x);
-    for (const c of b.code) { const p = l.pos(c.k); place.set(c.ip, {x: b.x + p.x, y: b.y + p.y, w: p.w}); }
+    b.view.forEach((c, i) => { const p = l.pos(i); place.set(c.ip, {x: b.x + p.x, y: b.y + p.y, w: p.w}); });
   }
   size = {w: Math.max(W, 60), h: y + rowh + 10};
   for (const b of small) {
@@ -115,11 +128,10 @@ function draw(list) {
         sv('text', {class: 'btitle', x: b.x + 12, y: b.y + 19}, bname(b)));
     const fars = [];
     for (const e of l.edges) {
-      const src = b.code[e.a], dst = b.code[e.z], both = src.d[0] && src.d[1], A = place.get(src.ip), Z = place.get(dst.ip), pts = [];
+      const src = b.view[e.a], dst = b.view[e.z], twin = l.edges.find(z => z.a === e.a && z !== e), A = place.get(src.ip), Z = place.get(dst.ip), pts = [];
       let out = 0;
-      if (both) { const mine = e.path[1].x, twin = l.edges.find(z => z.a === e.a && z.k !== e.k);
-          if (twin) { const o = twin.path[1].x; out = (mine < o || (mine === o && (twin.z === e.z ? e.port === 'l' : e.k === 0)) ? -1 : 1) * Math.min(14,
-          A.w / 5); } }
+      if (twin) { const mine = e.path[1].x, o = twin.path[1].x; out = (mine < o || (mine === o && (twin.z === e.z ? e.port === 'l' : e.k === 0)) ? -1 : 1) * Math.min(14,
+          A.w / 5); }
       pts.push([A.x + out, A.y + NH]);
       for (const v of e.path.slice(1, -1)) pts.push([b.x + v.x, b.y + 52 + v.row * LH], [b.x + v.x, b.y + 52 + v.row * LH + NH]);
       const end = [Z.x + (dst.two ? (e.port === 'l' ? -1 : 1) * Z.w / 4 : 0), Z.y];
@@ -134,7 +146,7 @@ function draw(list) {
       if (src.name === 'switch') g.push(sv('text', {class: 'pl', x: pts[0][0] + (out < 0 ? -9 : 4), y: pts[0][1] + 11}, e.k ? 'F' : 'T'));
       edgeOf.set(src.ip + '>' + dst.ip + e.port, {path: path, end: end, from: pts[pts.length - 2]});
     }
-    for (const c of b.code) {
+    for (const c of b.view) {
       const m = /^b(\d+)(?:\.(\d+))?$/.exec(c.op);
       if (m && BLOCKS[+m[1]]) fars.push([c, BLOCKS[+m[1]].first + (m[2] ? +m[2] : 0)]);
     }
@@ -152,11 +164,12 @@ function draw(list) {
     const path = sv('path', {class: 'far', d: p, 'marker-end': 'url(#arrowf)'});
     farOf.set(c.ip, path); g.push(path);
   }));
-  for (const b of small) for (const c of b.code) {
+  for (const c of CODE) c.g = null;
+  for (const b of small) for (const c of b.view) {
     const p = place.get(c.ip), label = at(c.ip) + ' ' + c.name + ' ' + c.op;
     c.g = sv('g', {class: 'node' + (c.k <= b.ins ? ' entry' : ''), tabindex: 0, role: 'button',
         'aria-label': 'Instruction ' + label + (c.slot === null ? '' : ', slot ' + c.slot), transform: `translate(${p.x - p.w / 2},${p.y})`,
-        on: () => choose({ip: c.ip})},
+        on: () => choose({ip: c.ip, of: ofInstruction(c.ip)})},
       sv('title', {}, label + (HELP[c.name] ? ': ' + HELP[c.name] : '')), sv('rect', {width: p.w, height: NH, rx: c.k <= b.ins ? 16 : 6}),
       sv('text', {x: p.w / 2, y: c.slot === null ? 22 : 17, 'text-anchor': 'middle'}, sv('tspan', {class: 'num'}, c.k + ' '),
           sv('tspan', {class: 'nm'}, c.name), c.op ? sv('tspan', {class: 'num'}, ' ' + c.op) : ''),
@@ -170,7 +183,7 @@ function draw(list) {
       sv('defs', {}, arrow('arrow', 'var(--faint)'), arrow('arrowf', 'var(--manager)'), arrow('arrowm', 'var(--memory)')), g, layer) : null;
   const tables = big.map(b => {
     const body = el('tbody', {});
-    for (const c of b.code) { const r = el('tr', {on: () => choose({ip: c.ip})}, el('td', {}, String(c.k)), el('td', {}, el('b', {}, c.name)),
+    for (const c of b.view) { const r = el('tr', {on: () => choose({ip: c.ip, of: ofInstruction(c.ip)})}, el('td', {}, String(c.k)), el('td', {}, el('b', {}, c.name)),
         el('td', {}, c.slot === null ? '-' : String(c.slot)), c.d.map(d => el('td', {}, d ? '+' + (d.ip - c.ip) + d.port : '-')),
         el('td', {}, c.op || '-'), el('td', {})); body.append(r); rowOf.set(c.ip, r); }
     return el('div', {class: 'tbl mono'}, el('b', {}, bname(b)), el('table', {},
@@ -191,11 +204,10 @@ function blocksFor(n, f, s) {
   if (v === 'all') return BLOCKS;
   if (v === 'run') return BLOCKS.filter(b => b.used);
   if (v !== 'follow') return [BLOCKS[+v]];
-  const t = n < 0 ? D.start[0] : TOK[EV[n][1]], o = s.out.get(f);
-  if (t && t[0] === 'i' && CODE[t[2]]) return [BLOCKS[CODE[t[2]].b]];
-  return o && o.b >= 0 ? [BLOCKS[o.b]] : shown.length ? shown : [BLOCKS[MAIN]];
+  const i = CODE[n < 0 ? START ? IP[0] : -1 : ipOf(n)], b = s.out.has(f) && blockOf(s.out.get(f), n);
+  return i ? [BLOCKS[i.b]] : b ? [b] : shown.length ? shown : [BLOCKS[MAIN]];
 }
-let hot = [];
+let hot = [], told = new Map();  // what is marked; the rows of tables with their tokens
 function chip(x, y, w, cls, title, t, aside) {  // aside: how far from the middle; never across it
   const s = brief(w, 13), wd = Math.max(20, 10 + 6.8 * s.length);
   if (aside) x += Math.sign(aside) * Math.max(Math.abs(aside), wd / 2 + 1);
@@ -207,53 +219,55 @@ function marks(n, s, pool, f) {
   for (const h of hot) h[0].classList.remove(h[1]);
   hot = [];
   const on = (e, c) => { if (e) { e.classList.add(c); hot.push([e, c]); } };
-  const ev = n < 0 ? null : EV[n], t0 = ev && TOK[ev[1]], src = t0 && t0[0] === 'i' ? t0[2] : -1, all = $('fsel').value === 'all';
+  const ev = n < 0 ? null : eventOf(n), src = ipOf(n), all = $('fsel').value === 'all';
   if (src >= 0) { on(CODE[src] && CODE[src].g, 'act'); on(rowOf.get(src), 'act'); if (farOf.get(src) && ev[4].length) on(farOf.get(src), 'on'); }
   if (picked && picked.ip !== undefined) on(CODE[picked.ip] && CODE[picked.ip].g, 'sel');
-  for (const h of rowOf.values()) h.lastChild.textContent = '';
+  for (const r of told.keys()) r.lastChild.textContent = '';
+  told.clear();
   if (layer) layer.replaceChildren();
   const kids = [], stack = new Map(), others = new Map();
   const spot = (k, x, y) => { const c = stack.get(k) || 0; stack.set(k, c + 1); return c > 5 ? null : [x + c * 7, y - c * 13]; };
+  const side = (ip, port) => CODE[ip].two ? (port === 'l' ? -1 : 1) * place.get(ip).w / 4 : 0;
   const rest = ip => others.set(ip, (others.get(ip) || 0) + 1);
-  if (ev) for (const m of ev[4]) if (m[0] === 'i' && src >= 0) {
-    const e = m[1] === t0[1] && edgeOf.get(src + '>' + m[2] + m[3]), A = place.get(src), Z = place.get(m[2]);
+  if (ev) for (const m of ev[4]) if (m[0] === 'i' && src >= 0) for (const d of reach(m[2], m[3])) {
+    const e = m[1] === TO[TAKES[n]] && edgeOf.get(src + '>' + d.ip + d.port), A = place.get(src), Z = place.get(d.ip);
     if (e) on(e.path, 'hot');
-    else if (A && Z && !farOf.get(src)) { const up = Z.y < A.y, h = up ? -30 : 40, zx = Z.x + (CODE[m[2]].two ? (m[3] === 'l' ? -1 : 1) * Z.w / 4 : 0);
+    else if (A && Z && !farOf.get(src)) { const up = Z.y < A.y, h = up ? -30 : 40, zx = Z.x + side(d.ip, d.port);
         kids.push(sv('path', {class: 'made',
         d: `M${A.x + A.w / 2},${A.y + NH / 2}C${A.x + A.w / 2 + 70},${A.y + NH / 2 + h} ${zx + (up ? 60 : 0)},${Z.y - 60} ${zx},${Z.y}`,
         'marker-end': 'url(#arrowm)'})); }
   }
+  const tell = (ip, text) => { const r = rowOf.get(ip); if (r) told.set(r, (told.get(r) || '') + ' ' + text); };
+  const crowd = new Map();
   for (const t of pool) {
-    const T = TOK[t];
-    if (T[0] !== 'i') continue;
-    if (!all && T[1] !== f) { rest(T[2]); continue; }
-    const r = rowOf.get(T[2]);
-    if (r) r.lastChild.textContent += ' ' + brief(T[4], 14) + ' ' + T[3];
-    const Z = place.get(T[2]);
+    const ip = IP[t], many = crowd.get(ip) || 0;
+    if (ip < 0) continue;
+    if ((!all && TO[t] !== f) || many > 15) { rest(ip); continue; }
+    crowd.set(ip, many + 1);
+    const T = tokenOf(t), d = reach(ip, T[3])[0], Z = d && place.get(d.ip), from = MADE[t];
+    tell(ip, brief(T[4], 14) + ' ' + T[3]);
     if (!Z) continue;
-    const m = MADE[t], M = m >= 0 && TOK[EV[m][1]], e = M && M[0] === 'i' && M[1] === T[1] && edgeOf.get(M[2] + '>' + T[2] + T[3]);
-    const x = e ? e.end[0] + (e.from[0] - e.end[0]) * 0.22 : Z.x + (CODE[T[2]].two ? (T[3] === 'l' ? -1 : 1) * Z.w / 4 : 0), y = Z.y - 17;
-    const p = spot(T[2] + T[3], x, y);
-    if (p) kids.push(chip(p[0], p[1], T[4], m === n ? 'new' : '', 'Token: ' + goes(T, -1), t));
+    const e = from >= 0 && ipOf(from) >= 0 && TO[TAKES[from]] === T[1] && edgeOf.get(ipOf(from) + '>' + d.ip + d.port);
+    const p = spot(d.ip + d.port, e ? e.end[0] + (e.from[0] - e.end[0]) * 0.22 : Z.x + side(d.ip, d.port), Z.y - 17);
+    if (p) kids.push(chip(p[0], p[1], T[4], from === n ? 'new' : '', 'Token: ' + goes(T, -1), t));
   }
-  s.slots.forEach((v, k) => {
-    if (v.ev < 0) return;
-    const fr = Math.floor(k / 512), t = EV[v.ev][1], T = TOK[t];
-    if (T[0] !== 'i') return;
-    if (!all && fr !== f) { rest(T[2]); return; }
-    const q = v.s, Z = place.get(T[2]), side = q[0] === 'l' || q[0] === 'r', w = side ? q[1] : q[0] === 'c' ? many(q[1], 'credit') : q[0] === 'w' ?
-        'asks ' + short(q[1]) : 'drain ' + q[1], r = rowOf.get(T[2]);
-    if (r) r.lastChild.textContent += ' [' + brief(w, 14) + ' ' + T[3] + ']';
-    if (!Z) return;
-    const p = spot('w' + T[2] + T[3], Z.x, side ? Z.y - 3 : Z.y + NH + 8);
-    if (p) kids.push(chip(p[0], p[1], w, 'wait', 'Frame ' + fr + ', slot ' + (k % 512) + ': ' + stands(q), t, side ? (q[0] === 'l' ? -1 : 1) * Z.w / 4 :
-        0));
-  });
+  const waits = [];
+  s.slots.forEach((c, k) => { const ip = c < K ? -1 : ipOf(c - K), many = crowd.get(-ip) || 0; if (ip < 0) return;
+      if ((!all && Math.floor(k / 512) !== f) || many > 15) rest(ip); else { waits.push(k); crowd.set(-ip, many + 1); } });
+  for (const k of waits.sort((a, b) => a - b)) {
+    const c = s.slots.get(k), ip = ipOf(c - K), Z = place.get(ip), T = takenBy(c - K), q = stateOf(c), word = q[0] === 'l' || q[0] === 'r';
+    const w = word ? q[1] : q[0] === 'c' ? many(q[1], 'credit') : q[0] === 'w' ? 'asks ' + short(q[1]) : 'drain ' + q[1];
+    tell(ip, '[' + brief(w, 14) + ' ' + T[3] + ']');
+    const p = Z && spot('w' + ip + T[3], Z.x, word ? Z.y - 3 : Z.y + NH + 8);
+    if (p) kids.push(chip(p[0], p[1], w, 'wait', 'Frame ' + Math.floor(k / 512) + ', slot ' + (k % 512) + ': ' + stands(q), TAKES[c - K],
+        word ? (q[0] === 'l' ? -1 : 1) * Z.w / 4 : 0));
+  }
+  told.forEach((text, r) => { r.lastChild.textContent = text; });
   others.forEach((c, ip) => { const Z = place.get(ip);
       if (Z) kids.push(sv('text', {class: 'others', x: Z.x + Z.w / 2 - 4, y: Z.y + NH + 10, 'text-anchor': 'middle'}, '+' + c)); });
   if (layer) layer.append(...kids);
   let focus = src;
-  if (focus < 0 && ev) for (const m of ev[4]) if (m[0] === 'i') focus = m[2];
+  if (focus < 0 && ev) for (const m of ev[4]) if (m[0] === 'i') for (const d of reach(m[2], m[3])) focus = d.ip;
   return focus < 0 ? src : focus;
 }
 function reveal(focus, src) {  // asks for the page's layout, so comes last

@@ -39,7 +39,12 @@ header p{margin:0;color:var(--dim);font-size:.86rem}
 #ctl button{min-width:2.3rem}
 #ctl .go{background:var(--accent);color:var(--on);border-color:var(--accent);min-width:4.6rem;font-weight:600}
 #at{font-weight:600;margin:0 .4rem;font-variant-numeric:tabular-nums;min-width:9em}
-#ctl label{color:var(--dim);font-size:.86rem}
+#more{display:flex;flex-wrap:wrap;gap:.3rem .8rem;align-items:center;margin-bottom:.5rem;font-size:.86rem}
+#more label{color:var(--dim);display:inline-flex;gap:.3rem;align-items:center}
+#more .pair{display:inline-flex;gap:.25rem}
+#told{font-weight:600}
+input:not([type]){font:inherit;border:1px solid var(--line);border-radius:6px;background:var(--card);color:var(--ink);padding:.15rem .4rem}
+#goto{width:5.5em}
 #say{margin:.4rem 0 0;min-height:2.9em;font-size:1.04rem;line-height:1.42}
 #say b{color:var(--accent);font-weight:650}
 #say .end{display:block;font-weight:600;color:var(--defer)}
@@ -51,11 +56,18 @@ header p{margin:0;color:var(--dim);font-size:.86rem}
 .legend i{display:inline-block;width:.75em;height:.75em;border-radius:2px;margin-right:.35em}
 #cols{display:grid;grid-template-columns:minmax(0,1.45fr) minmax(0,1fr);gap:.6rem;align-items:start}
 @media (max-width:860px) {
-  #bar{position:static}
-  #cols{grid-template-columns:minmax(0,1fr)}
-  #say{min-height:4.3em;font-size:.98rem}
-  #at{min-width:0}
-  .wide{display:none}
+  main:not([hidden]){display:flex;flex-direction:column}
+  #cols{display:contents}
+  #cols>section{order:1}
+  #more{order:2}
+  #tl{order:3}
+  #cols>div{order:4}
+  #bar{padding:.3rem 0 .25rem}
+  #say{min-height:4.3em;max-height:7.2em;overflow:auto;font-size:.94rem}
+  #at{min-width:0;font-size:.86rem}
+  #ctl button{min-height:2.3rem}
+  #more button,#more select,#goto,#find{min-height:2rem}
+  #graph{max-height:24rem}
 }
 .row{display:flex;flex-wrap:wrap;gap:.3rem .6rem;align-items:center;margin-bottom:.4rem}
 .row h2{margin:0;margin-right:auto}
@@ -133,7 +145,7 @@ summary{cursor:pointer;font-weight:600;padding:.3rem 0}
 kbd{border:1px solid var(--line);border-radius:3px;padding:0 .25em;font-size:.8em;background:var(--card)}
 @media print {
   :root{color-scheme:light;--bg:#fff;--card:#fff;--ink:#000;--dim:#333;--line:#999}
-  #ctl button,#ctl label,#ctl select,.row select,.row label,.row button,.legend,#plain,#keys,#info{display:none!important}
+  #ctl button,#more,.row select,.row label,.row button,.legend,#plain,#keys,#info{display:none!important}
   #bar{position:static}
   #graph,.scroll{max-height:none;overflow:visible;background:none}
   #graph svg{width:100%;height:150mm}
@@ -155,16 +167,26 @@ kbd{border:1px solid var(--line);border-radius:3px;padding:0 .25em;font-size:.8e
 <button id="next" aria-label="One event forward (right arrow)">&#9654;</button>
 <button id="last" aria-label="To the end (End)">&#9654;|</button>
 <span id="at"></span>
+</div>
+<p id="say" aria-live="polite"></p>
+</div>
+<div id="more" role="group" aria-label="Finding an event">
+<label>Go to <input id="goto" inputmode="numeric" size="7" placeholder="event" aria-label="Go to event number (g)"></label>
+<label>Find <input id="find" size="13" placeholder="A[3], frame 5, 42" autocapitalize="off" autocomplete="off" spellcheck="false"
+  aria-label="Find a cell, a frame, an instruction, a function or a value (/)"></label>
+<span class="pair"><button id="before" aria-label="Last event of the same (p)">&#9664;</button>
+<select id="same" aria-label="The same: of which the next and the last event are wanted">
+<option value="instruction">this instruction<option value="frame">this frame<option value="function">this function
+<option value="cell">this cell<option value="found">what was found</select>
+<button id="after" aria-label="Next event of the same (n)">&#9654;</button></span>
+<label><input type="checkbox" id="brief"> without copies, syncs and sends</label>
 <label>Speed <select id="speed">
 <option value="0.5">1 in 2 s
 <option value="1" selected>1 a second<option value="3">3 a second
 <option value="10">10 a second<option value="50">50 a second<option value="500">500 a second
 <option value="5000">5,000 a second</select></label>
-<label class="wide">Go to <input id="goto" inputmode="numeric" size="7" aria-label="Go to event number"
-  style="font:inherit;width:5.5em;border:1px solid var(--line);border-radius:6px;background:var(--card);color:inherit;padding:.15rem .4rem"></label>
-<a id="link" class="wide" href="#event=start">link to this moment</a>
-</div>
-<p id="say" aria-live="polite"></p>
+<a id="link" href="#event=start">link to this moment</a>
+<span id="told" role="status"></span>
 </div>
 <section class="card" id="tl" aria-label="Timeline">
 <canvas id="cv" tabindex="0" role="slider" aria-label="Event of the run" aria-valuemin="-1"></canvas>
@@ -176,7 +198,7 @@ kbd{border:1px solid var(--line);border-radius:3px;padding:0 .25em;font-size:.8e
 <label>frame <select id="fsel"></select></label>
 <label>blocks <select id="bsel"></select></label>
 <label>size <select id="zsel"><option value="fit">fit<option value="0.7">70 %<option value="1">100 %<option value="1.4">140 %</select></label></div>
-<div id="graph" tabindex="0"></div>
+<div id="graph" tabindex="0" role="region" aria-label="Picture of the code"></div>
 <div id="note" class="none"></div>
 <div class="legend"><span><span class="chip">5</span> on its way</span>
 <span><span class="chip new">5</span> made by this event</span>
@@ -194,9 +216,10 @@ kbd{border:1px solid var(--line);border-radius:3px;padding:0 .25em;font-size:.8e
 <section class="card" id="acard"><h2>Arrays</h2><div id="cells" class="scroll"></div></section>
 <section class="card"><h2>Requests that wait</h2><div id="reqs"></div></section>
 <section class="card"><h2>Tokens on their way <span class="none" id="tcount"></span></h2><ul id="toks" class="list scroll"></ul></section>
-<p class="none" id="keys">Keys: <kbd>&#8592;</kbd> <kbd>&#8594;</kbd> one event, <kbd>space</kbd> play, <kbd>Home</kbd> <kbd>End</kbd>.
-Click a token for the event that made it, an instruction for its events,
-the timeline to jump.</p>
+<p class="none" id="keys">Keys: <kbd>&#8592;</kbd> <kbd>&#8594;</kbd> one event, <kbd>space</kbd> play, <kbd>Home</kbd> <kbd>End</kbd>;
+<kbd>n</kbd> <kbd>p</kbd> next and last event of the same, <kbd>/</kbd> find, <kbd>g</kbd> go to.
+Click a token for the event that made it, an instruction or a cell for its events,
+the timeline to jump. What is found of a value are the events that make it or leave it in a slot, a cell or an output.</p>
 </div>
 </div>
 </main>

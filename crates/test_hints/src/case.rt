@@ -139,7 +139,7 @@ impl Case {
     }
 
     /// Runs a command line, and writes what was reported. Gives the exit status, if it was run.
-    fn write_out<R: Files + Threads + Wait + Sync, W: Write>(
+    fn write_out<R: Threads + Wait + Sync, W: Write>(
         &self,
         rt: &R,
         line: &[u8],
@@ -161,7 +161,7 @@ impl Case {
 
     /// Runs each command line of the case, and writes what was reported: once for all that follow one another and have the
     /// same report.
-    pub fn try_out<R: Files + Threads + Wait + Sync, W: Write>(
+    pub fn try_out<R: Threads + Wait + Sync, W: Write>(
         &self,
         rt: &R,
         out: &mut W,

@@ -4,7 +4,7 @@ use crate::tally::Tally;
 use driver::resources::Resources;
 use hints::Hint;
 use outcomes::Outcome;
-use process::{Ended, Explain, SystemFiles, run_words};
+use process::{Explain, SystemFiles, run_words};
 use rounds::Open;
 use std::alloc::{AllocError, Allocator, Global};
 use std::convert::AsStr;
@@ -77,13 +77,13 @@ impl Explain for Silent {
     }
 }
 
-/// Runs the command of these words, which reads this input, and the file that they name.
-fn run<'a, R: Files + Threads + Wait + Sync>(
+/// Runs the command of these words, which reads this input, and the file that they name. Gives what it prints, and its exit status.
+fn run<R: Files + Threads + Wait + Sync>(
     rt: &R,
     alloc: Global,
     words: &[&str],
-    input: &'a [u8],
-) -> io::Result<Ended<&'a [u8], Vec<u8>>> {
+    input: &[u8],
+) -> io::Result<(Vec<u8>, u8)> {
     let mut errors = Vec::new(alloc);
     let folder = SystemFiles { rt };
     let resources = Resources {
@@ -91,7 +91,7 @@ fn run<'a, R: Files + Threads + Wait + Sync>(
         rt,
         gate: &Open,
     };
-    run_words(
+    let ended = run_words(
         words,
         input,
         Vec::new(alloc),
@@ -99,7 +99,8 @@ fn run<'a, R: Files + Threads + Wait + Sync>(
         &Silent,
         &folder,
         resources,
-    )
+    )?;
+    Ok((ended.writer, ended.status))
 }
 
 /// Runs the commands, where the first one reads this input.
@@ -115,9 +116,9 @@ fn run_commands<R: Files + Threads + Wait + Sync>(
     };
     for command in commands.split(" | ") {
         let words = words_of(alloc, command)?;
-        let ended = run(rt, alloc, &words, &ran.text)?;
-        ran.text = ended.writer;
-        ran.statuses.push(ended.status)?;
+        let (text, status) = run(rt, alloc, &words, &ran.text)?;
+        ran.text = text;
+        ran.statuses.push(status)?;
     }
     Ok(ran)
 }
