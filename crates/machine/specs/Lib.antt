@@ -2,4 +2,5 @@ pub mod Bundles
 pub mod Blocks
 pub mod Runners
 pub mod Ends
+pub mod ByDepth
 pub mod Starts
