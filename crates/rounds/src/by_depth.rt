@@ -19,8 +19,8 @@ use schedule::halt::Halt;
 use schedule::log::{EventLog, Log};
 use std::alloc::Allocator;
 
-// Whether so many tokens are few besides the requests that the element holds back.
-fn are_few<C: Instructions, A: Allocator>(lane: &Lane<'_, C, A>, ordinary: u128) -> bool
+/// Whether so many tokens are few besides the requests that the element holds back.
+pub fn are_few<C: Instructions, A: Allocator>(lane: &Lane<'_, C, A>, ordinary: u128) -> bool
     requires { ordinary < 2 ^ 100 }
     ensures yes { result ≡ true → AreFew ordinary lane.now.held }
     ensures no { result ≡ false → AreFew ordinary lane.now.held → ⊥ }
@@ -113,8 +113,8 @@ fn grant<C: Instructions, A: Allocator + Clone, L: Log>(
     }
 }
 
-// Grants requests as long as few other tokens are left, up to `turn` of them, and answers how many it granted.
-fn grant_all<C: Instructions, A: Allocator + Clone, L: Log>(
+/// Grants requests as long as few other tokens are left, up to `turn` of them, and answers how many it granted.
+pub fn grant_all<C: Instructions, A: Allocator + Clone, L: Log>(
     lane: &mut Lane<'_, C, A>,
     order: &mut GrantOrder<A>,
     sent: &mut Vec<PackedToken, A>,
@@ -151,8 +151,8 @@ fn grant_all<C: Instructions, A: Allocator + Clone, L: Log>(
     Ok(turn)
 }
 
-// Takes the oldest tokens that are no requests it holds back, up to `turn` of them.
-fn take_others<C: Instructions, A: Allocator + Clone, L: Log>(
+/// Takes the oldest tokens that are no requests it holds back, up to `turn` of them.
+pub fn take_others<C: Instructions, A: Allocator + Clone, L: Log>(
     lane: &mut Lane<'_, C, A>,
     sent: &mut Vec<PackedToken, A>,
     log: &mut EventLog<A, L>,

@@ -8,6 +8,7 @@ mod gathering;
 mod rounds;
 mod turn;
 
+pub use by_depth::{are_few, grant_all, take_others};
 pub use gate::{Gate, Open};
 pub use rounds::{
     Counted, run, run_counted, run_counted_taking, run_quietly, run_quietly_taking, run_taking,
