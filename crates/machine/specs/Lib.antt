@@ -1,6 +1,6 @@
 pub mod Bundles
 pub mod Blocks
+pub mod ByDepth
 pub mod Runners
 pub mod Ends
-pub mod ByDepth
 pub mod Starts
