@@ -1,5 +1,6 @@
 pub mod Tokens
 pub mod Flowing
+pub mod Spending
 pub mod Accounts
 pub mod Steps
 pub mod Beginning

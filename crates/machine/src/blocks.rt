@@ -206,7 +206,8 @@ fn make_events<C: MainCode, A: Allocator + Clone, L: Log>(
     } = runner;
     let halt = take_turn(lane, sent, log, turn);
     let events = runner.lane.made() - first;
-    commit(runner, mesh, shape, before, events, events.min(before))?;
+    let spent = events.min(before);
+    commit(runner, mesh, shape, before, events, spent)?;
     Ok(halt)
 }
 

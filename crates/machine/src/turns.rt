@@ -125,7 +125,8 @@ fn look<C: MainCode, A: Allocator, L: Log>(
     ensures clear { IsClear runner.new }
     ensures waits { result ≢ Some Departure.Waited }
 {
-    let _ = (shape, order);
+    let _ = shape;
+    let _ = order;
     if mesh.stopped(&mut runner.seat) != 0 {
         return Some(Departure::Stopped);
     }
