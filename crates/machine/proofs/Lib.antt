@@ -6,6 +6,7 @@ pub mod Steps
 pub mod Beginning
 pub mod Lists
 pub mod Chosen
+pub mod Orders
 pub mod Freeing
 pub mod Freed
 pub mod Keeping

@@ -1,7 +1,7 @@
 -- What a turn by depth spends of the queue, and what it makes.
 use Rattle.std.proofs.Common.{◌≡◌, refl, sym, ◌∙◌, ap, subst, ℕ, zero, suc, ◌+◌, ◌-◌, ◌*◌, ◌%◌, ◌<◌, ◌≤◌, ◌⊎◌, inl, inr, Bool, true, false, List, [], ◌∷◌, ◌++◌}
 use Rattle.std.proofs.Common.{length, Option, Some, None, arith, append_assoc}
-use Rattle.std.specs.Prelude.{All, IsPermutation, map, not, slice_get, slice_index_or, remove, min, if◌then◌else◌}
+use Rattle.std.specs.Prelude.{All, IsPermutation, map, not, slice_get, slice_index_or, remove, min, take, if◌then◌else◌}
 use Rattle.std.proofs.lemmas.List.{append-nil, length-append, length-map, map-append, nil_from_length}
 use Rattle.std.proofs.lemmas.List.Elements.{All-nil, All-append, All-filter}
 use Rattle.std.proofs.lemmas.List.Edits.{remove-append_left, remove-append_right}
@@ -579,3 +579,36 @@ module _ (g : Setting) (e turn ordinary : ℕ) (old : Holding) (taken : Ts) (new
         flows = subst (λ (l : Ts). Flows f.gone acts_by_depth (f.more ++ l)) (append-nil after)
             (f.flows [] f.gone (at_last (IsPermutation-refl f.gone) (sym (append-nil f.gone))));
       }
+
+-- COUNTING
+pub besides_first : (q : Ts) (k : ℕ) → besides (take k q) ≤ besides q
+besides_first [] zero = omega arith
+besides_first [] (suc k) = omega arith
+besides_first (t ∷ q) zero = omega arith
+besides_first (t ∷ q) (suc k) = by_case (is_for_manager t.to) refl (besides_first q k)
+  where
+    by_case : (b : Bool) → is_for_manager t.to ≡ b → besides (take k q) ≤ besides q → besides (t ∷ take k q) ≤ besides (t ∷ q)
+    by_case true asks rest = let a = none_besides t (take k q) asks in let b = none_besides t q asks in omega (arith, a, b, rest)
+    by_case false other rest = let a = one_besides t (take k q) other in let b = one_besides t q other in omega (arith, a, b, rest)
+
+-- one more of them is looked at
+besides_more : (q : Ts) (k : ℕ) (t : Token) → k < length q → t ≡ slice_index_or q k t → besides (take (suc k) q) ≡ besides (take k q) + besides (t ∷ [])
+besides_more [] k t low is = absurd (omega (arith, low))
+besides_more (x ∷ q) zero t low is = let e : besides (x ∷ []) ≡ besides (t ∷ []) = ap (λ (y : Token). besides (y ∷ [])) (sym is) in omega (arith, e)
+besides_more (x ∷ q) (suc k) t low is = by_case (is_for_manager x.to) refl (besides_more q k t (omega (arith, low)) is)
+  where
+    by_case : (b : Bool) → is_for_manager x.to ≡ b → besides (take (suc k) q) ≡ besides (take k q) + besides (t ∷ [])
+        → besides (x ∷ take (suc k) q) ≡ besides (x ∷ take k q) + besides (t ∷ [])
+    by_case true asks rest = let a = none_besides x (take (suc k) q) asks in let b = none_besides x (take k q) asks in omega (arith, a, b, rest)
+    by_case false other rest = let a = one_besides x (take (suc k) q) other in let b = one_besides x (take k q) other in omega (arith, a, b, rest)
+
+pub besides_next : (q : Ts) (k : ℕ) (t : Token) → k < length q → t ≡ slice_index_or q k t → besides (take (k + 1) q) ≡ besides (take k q) + besides (t ∷ [])
+besides_next q k t low is =
+    let place : suc k ≡ k + 1 = omega arith in
+    subst (λ (n : ℕ). besides (take n q) ≡ besides (take k q) + besides (t ∷ [])) place (besides_more q k t low is)
+
+pub request_besides : (t : Token) → is_for_manager t.to ≡ true → besides (t ∷ []) ≡ 0
+request_besides t asks = none_besides t [] asks
+
+pub other_besides : (t : Token) → is_for_manager t.to ≡ false → besides (t ∷ []) ≡ 1
+other_besides t other = one_besides t [] other

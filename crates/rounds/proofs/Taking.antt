@@ -270,7 +270,7 @@ halts_start may start mid h halt fixed halts =
     (subst (λ (n : ℕ). HaltsTaking may mid.program n false h halt) (ap (λ (f : Fixed). f.steps) fixed) halts)
 
 -- A WHOLE TURN
-pub turns_granted : (p : Program) (steps turn ordinary : ℕ) (may_stop : Bool) (old new : Holding) (before granted after : List Token) (halt : Halt)
+unfoldable pub turns_granted : (p : Program) (steps turn ordinary : ℕ) (may_stop : Bool) (old new : Holding) (before granted after : List Token) (halt : Halt)
     → Takes (MayGrant ordinary) p steps 0 old before granted new after → HaltsTaking (MayGrant ordinary (length granted)) p steps may_stop new (Some halt)
     → TurnsByDepth p steps turn ordinary may_stop old before granted new after (Some halt)
 turns_granted p steps turn ordinary may_stop old new before granted after halt grants halts = record {
@@ -284,7 +284,7 @@ turns_granted p steps turn ordinary may_stop old new before granted after halt g
   ended = inr (refl, halts);
 }
 
-pub turns_all : (start mid : LaneView) (turn ordinary n : ℕ) (new : Holding) (before granted sent later after : List Token) (halt : Option Halt)
+unfoldable pub turns_all : (start mid : LaneView) (turn ordinary n : ℕ) (new : Holding) (before granted sent later after : List Token) (halt : Option Halt)
     → fixed_of mid ≡ fixed_of start → Takes (MayGrant ordinary) start.program start.steps 0 start.held before granted mid.held sent
     → Takes MayTake mid.program mid.steps 0 mid.held sent later new after → HaltsTaking (MayTake 0) mid.program mid.steps false new halt
     → IsWholeByDepth (turn - n) mid.held new halt → mid.held.made ≡ start.held.made + n → n ≤ turn → length later ≤ turn - n
