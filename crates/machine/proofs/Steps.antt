@@ -245,16 +245,18 @@ module _ (g : Setting) (mesh : MeshId) (start : Holding) (e : ℕ) (old : Holdin
       let nothing : sent ≡ [] = nil_from_length sent (omega (arith, l, g0, la)) in
       let queue : new.queue ≡ cut.keep = cut.after ∙ ap (λ (x : Ts). cut.keep ++ x) more ∙ append-nil cut.keep in
       let perm : IsPermutation old.queue new.queue = at_last cut.before (ap (λ (x : Ts). x ++ cut.keep) gone ∙ sym queue) in
-      let a : length acts ≡ 0 = acts_count ∙ none in
-      (nothing, record {
-        elements = r.elements;
-        placed = m.placed;
-        leads = subst (λ (p : Part). Blocks g e start.part blocks p) (sym is.0) r.leads;
-        count = let c = m.count in let b = r.count in omega (arith, c, b, a);
-        commits = r.commits;
-        balanced = r.balanced;
-        holds = IsPermutation-trans _ _ _ r.holds (IsPermutation-append_left bs old.queue new.queue perm);
-      })
+      let a : length acts ≡ 0 = acts_count ∙ none in (
+        nothing,
+        record {
+          elements = r.elements;
+          placed = m.placed;
+          leads = subst (λ (p : Part). Blocks g e start.part blocks p) (sym is.0) r.leads;
+          count = let c = m.count in let b = r.count in omega (arith, c, b, a);
+          commits = r.commits;
+          balanced = r.balanced;
+          holds = IsPermutation-trans _ _ _ r.holds (IsPermutation-append_left bs old.queue new.queue perm);
+        },
+      )
     where
       by_acts : (xs : List Act) → Chain g e old.part xs new.part → Flows cut.gone xs (cut.more ++ sent) → length xs ≡ 0
           → (new.part ≡ old.part) × IsPermutation cut.gone (cut.more ++ sent)

@@ -25,7 +25,7 @@ loop-at-preserved g c =
     let below : c.loop-at.at < length q = omega (arith, low, end) in
     let more = besides_next q c.loop-at.at c.packed.result below c.packed.ensures in
     elim c.if-not-is_request.branch [
-      then-not-is_request w ↦
+      | then-not-is_request w ↦
           let is = w.others-is in
           let no = w.if-not-is_request in
           let one = other_besides c.packed.result (sym asks ∙ no.true) in
