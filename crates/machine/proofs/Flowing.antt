@@ -125,9 +125,9 @@ acts_take p steps old before (t ∷ ts) new after (mid, sent, does, is, few, sou
     ∙ ap (λ (l : List Token). t ∷ l) (acts_take p steps mid sent ts new after rest)
 
 -- THE PARTS
-next_placed : (g : Setting) (e : ℕ) (lane next : Holding) (before sent : List Token) → IsPlaced g e lane
-    → (step : one.Does g.program lane 0 before next sent) → IsSoundLane g.program next → next.made ≤ g.steps → IsPlaced g e next
-next_placed g e lane next before sent old step next_sound few = record {
+pub next_placed : (g : Setting) (e : ℕ) (lane next : Holding) (before sent : List Token) {pick : ℕ} → IsPlaced g e lane
+    → (step : one.Does g.program lane pick before next sent) → IsSoundLane g.program next → next.made ≤ g.steps → IsPlaced g e next
+next_placed g e lane next before sent {pick} old step next_sound few = record {
   element = ap (λ (z : Shape). z.element) step.shape ∙ old.element;
   elements = ap (λ (z : Shape). z.elements) step.shape ∙ old.elements;
   frames = ap (λ (z : Shape). z.frames) step.shape ∙ old.frames;

@@ -19,6 +19,7 @@ use Rattle.schedule.specs.Shown.{ShowsInOrder}
 use Rattle.element.specs.Near.{Bounds}
 use Rattle.element.specs.Holding.{Holding, Fixed, held_of}
 use Rattle.schedule.specs.declared.halt.Halt.{Halt}
+use Rattle.schedule.specs.declared.take.Take.{Take}
 use Rattle.schedule.specs.Setting.{Setting, size}
 use Rattle.schedule.specs.State.{State, IsPlaced, IsSoundState, RunsAs, tokens_in}
 use Rattle.schedule.specs.Runs.{SoFar, Began, HaltsAs, NamesCell}
@@ -26,10 +27,10 @@ use Rattle.schedule.specs.Reported.{IsReportOf}
 use Rattle.schedule.specs.Unlisted.{with_events, ShowsBut}
 use Rattle.schedule.proofs.Reports.{clash_cell}
 use Rattle.mesh.specs.Seats.{MeshId, Account, SeatView, AreFresh, AreAll, accounts, Leaves, HasCommits, Agree, IsFinal, fresh_seat}
-use Rattle.rounds.specs.Turns.{HaltsLane, arriving}
+use Rattle.rounds.specs.Turns.{arriving}
 use Rattle.rounds.specs.Rounds.{IsHalted, ShowsOn}
 use Rattle.rounds.proofs.Closing.{raw_sound, none_sound, shows_any}
-use Rattle.rounds.proofs.Rounding.{halts_as}
+use Rattle.rounds.proofs.Rounding.{halts_any}
 use Rattle.law_linearization.specs.History.{Block, bounds_of, events_in, LeavesTokens, AreBelow}
 use Rattle.law_linearization.specs.Ends as ends
 use Rattle.ordering.specs.declared.log.BlockLog.{BlockLog}
@@ -41,12 +42,14 @@ use Rattle.law_linearization.proofs.EndsShowing.{points}
 use Rattle.machine.specs.declared.runner.Departure.{Departure}
 use Rattle.machine.specs.declared.runner.Runner.{Runner}
 use Rattle.machine.specs.Runners.{Ran, IsRunning, Runs, IsClear, IsDeparture, away}
-use Rattle.machine.specs.Ends.{reason_of, reasons_of, IsOwn, EndsFreely, EndsOn}
+use Rattle.machine.specs.ByDepth.{HaltsFreely}
+use Rattle.machine.specs.Ends.{reason_of, reasons_of, IsOwn, EndsTaking, EndsOn}
 use Rattle.rounds.specs.Counted.{IsFirst, NoneHalts}
 use Rattle.machine.specs.Starts.{lane_in, seat_of, departure_of, notes_of, lane_fixed, lanes_in, lanes_fixed, seats_in, departures_in, logs_in}
 use Rattle.machine.specs.Starts.{IsNew, IsHaltOf, AllEnded, Lists}
 use Rattle.machine.proofs.Beginning.{new_running}
 use Rattle.machine.proofs.Chosen.{chosen}
+use Rattle.machine.proofs.Orders.{halts_somewhere}
 use Rattle.machine.proofs.Freeing.{left_at, halted_at, reason_at}
 
 -- PLACES
@@ -160,7 +163,7 @@ module _ {C A L : Type 0} where
     all_run = λ i d low. ((lane_in (get_or olds i d), running i d low), (ready.new i d low).clear)
 
     -- RUNNERS THAT HAVE LEFT
-    module _ (may_stop : Bool) (news : List (CachePadded (Runner C A L))) (ended : AllEnded keeps_events g mesh may_stop olds news)
+    module _ (order : Take) (may_stop : Bool) (news : List (CachePadded (Runner C A L))) (ended : AllEnded order keeps_events g mesh may_stop olds news)
         (count : length news ≡ length olds) (none_lost : (i : ℕ) → slice_get (departures_in news) i ≡ Some Departure.Lost → ⊥) where
       within : (i : ℕ) → i < length olds → i < length news
       within i low = omega (arith, low, count)
@@ -184,8 +187,8 @@ module _ {C A L : Type 0} where
         element_at : (own_of p).element ≡ i
         element_at = ap (λ (q : CachePadded (Runner C A L)). (own_of q).element) (sym is) ∙ element i p low_old
 
-        left_is : IsDeparture g may_stop (padded_value p) (departure_of p)
-        left_is = subst (λ (q : CachePadded (Runner C A L)). IsDeparture g may_stop (padded_value q) (departure_of q)) is (ended i p low_old).departure
+        left_is : IsDeparture order g may_stop (padded_value p) (departure_of p)
+        left_is = subst (λ (q : CachePadded (Runner C A L)). IsDeparture order g may_stop (padded_value q) (departure_of q)) is (ended i p low_old).departure
 
         placed_at : IsPlaced g i (lane_in p)
         placed_at = subst (λ (n : ℕ). IsPlaced g n (lane_in p)) element_at ran_at.ran.placed
@@ -276,14 +279,14 @@ module _ {C A L : Type 0} where
           → IsHalted (arriving g (lanes_in news) tokens) may_stop halt
       lane_halts halt tokens e is =
           let f = slice_found departure_of news e (Departure.Halted halt) is in
-          let why : HaltsLane g.program g.steps may_stop (lane_in f.0) (Some halt) = subst
-          (λ (l : Departure). IsDeparture g may_stop (padded_value f.0) l) (sym f.2) (left_is e f.0 f.1 f.3) in
-          halts_as g may_stop (lanes_in news) tokens e (lane_in f.0) halt (slice_map lane_in news e f.0 f.1
-          ∙ ap (λ (q : CachePadded (Runner C A L)). Some (lane_in q)) f.3) why
+          let why : HaltsFreely order g may_stop (lane_in f.0) (Some halt) = subst
+          (λ (l : Departure). IsDeparture order g may_stop (padded_value f.0) l) (sym f.2) (left_is e f.0 f.1 f.3) in
+          halts_any g may_stop (lanes_in news) tokens e (lane_in f.0) halt (slice_map lane_in news e f.0 f.1
+          ∙ ap (λ (q : CachePadded (Runner C A L)). Some (lane_in q)) f.3) (halts_somewhere order g may_stop (lane_in f.0) halt why)
 
       -- what each says of itself is so
-      own_said : (r : Runner C A L) (departure : Departure) → (departure ≡ Departure.Lost → ⊥) → IsDeparture g may_stop r departure
-          → IsOwn g may_stop (held_of r.lane) (reason_of departure)
+      own_said : (r : Runner C A L) (departure : Departure) → (departure ≡ Departure.Lost → ⊥) → IsDeparture order g may_stop r departure
+          → IsOwn order g may_stop (held_of r.lane) (reason_of departure)
       own_said r Departure.Lost none is = absurd (none refl)
       own_said r (Departure.Halted halt) none is = is
       own_said r Departure.Rested none is = is.1
@@ -291,7 +294,7 @@ module _ {C A L : Type 0} where
       own_said r Departure.Waited none is = inl is
 
       own_reason : (e : ℕ) (h : Holding) (reason : Option Halt) → slice_get (lanes_in news) e ≡ Some h → slice_get (reasons_of (departures_in news)) e
-          ≡ Some reason → IsOwn g may_stop h reason
+          ≡ Some reason → IsOwn order g may_stop h reason
       own_reason e h reason lane said =
           let f = slice_found lane_in news e h lane in
           let p : CachePadded (Runner C A L) = f.0 in
@@ -301,7 +304,7 @@ module _ {C A L : Type 0} where
           same_Some reason (reason_of (departure_of p)) (sym said ∙ reason_at (departures_in news) e (departure_of p) there) in
           let own = own_said (padded_value p) (departure_of p) (λ (is : departure_of p ≡ Departure.Lost). none_lost e
           (there ∙ ap (λ (l : Departure). Some l) is)) (left_is e p f.1 f.3) in
-          subst (λ (o : Option Halt). IsOwn g may_stop h o) (sym same) (subst (λ (x : Holding). IsOwn g may_stop x (reason_of (departure_of p))) (sym f.2) own)
+          subst (λ (o : Option Halt). IsOwn order g may_stop h o) (sym same) (subst (λ (x : Holding). IsOwn order g may_stop x (reason_of (departure_of p))) (sym f.2) own)
 
       pub cell : (halt : Halt) → IsHaltOf (departures_in news) halt → NamesCell g.program halt
       cell halt truth = by_left truth.1
@@ -341,7 +344,7 @@ module _ {C A L : Type 0} where
             → slice_get (departures_in news) e ≡ Some Departure.Rested → tokens_in (arriving g (lanes_in news) x.tokens).lanes ≡ []
         rests inputs before x e is =
             let f = slice_found departure_of news e Departure.Rested is in
-            let seen : Leaves (seat_of f.0).mesh (own_of f.0).last 0 = (subst (λ (l : Departure). IsDeparture g may_stop (padded_value f.0) l)
+            let seen : Leaves (seat_of f.0).mesh (own_of f.0).last 0 = (subst (λ (l : Departure). IsDeparture order g may_stop (padded_value f.0) l)
             (sym f.2) (left_is e f.0 f.1 f.3)).0 in
             let there : get_elem? (owns news) e ≡ some (own_of f.0) = get_map own_of news e f.0 f.1
             ∙ ap (λ (q : CachePadded (Runner C A L)). some (own_of q)) f.3 in
@@ -449,7 +452,7 @@ module _ {C A L : Type 0} where
             → (kept after : Events) (r : Report) → (keeps_events ≡ true → Lists logs opening kept after)
             → (let w : State = record { setting = now; lanes = raw } in let k : SoFar = record { state = w; events = after } in IsReportOf k halt r)
             → (inputs : List ℤ) (before : Events) → Began inputs (arriving g (lanes_in olds) []) before → r.end ≢ End.Memory
-            → EndsOn keeps_events g inputs may_stop kept before r
+            → EndsOn order keeps_events g inputs may_stop kept before r
         ends_last halt truth now setting raw is logs logs_are opening opens kept after r lists reported inputs before began ne = by_end
             (the_end inputs before began)
           where
@@ -462,7 +465,7 @@ module _ {C A L : Type 0} where
                 (subst (λ (l : List Holding). let w : State = record { setting = now; lanes = l }
                 in let k : SoFar = record { state = w; events = after } in IsReportOf k halt r) is reported)
 
-            by_end : ends.Ended g s inputs before (lanes_in news) blocks_of → EndsOn keeps_events g inputs may_stop kept before r
+            by_end : ends.Ended g s inputs before (lanes_in news) blocks_of → EndsOn order keeps_events g inputs may_stop kept before r
             by_end x = by_keeping keeps_events refl
               where
                 by_why : IsFirst (reasons_of (departures_in news)) halt ⊎ (((e : ℕ) × (slice_get (departures_in news) e ≡ Some Departure.Rested))
@@ -472,7 +475,7 @@ module _ {C A L : Type 0} where
                 by_why (inl least) = inl least
                 by_why (inr (at, silent, none)) = inr (silent, rests inputs before x at.0 at.1, none)
 
-                ending : (all : Events) → Began inputs (arriving g (lanes_in news) x.tokens) all → EndsFreely g inputs may_stop (with_events r all)
+                ending : (all : Events) → Began inputs (arriving g (lanes_in news) x.tokens) all → EndsTaking order g inputs may_stop (with_events r all)
                 ending all last = record {
                   lanes = lanes_in news;
                   on_way = x.tokens;
@@ -485,7 +488,7 @@ module _ {C A L : Type 0} where
                   reported = (reported_with last_state after all halt r ne reported_here).1;
                 }
 
-                by_keeping : (b : Bool) → keeps_events ≡ b → EndsOn keeps_events g inputs may_stop kept before r
+                by_keeping : (b : Bool) → keeps_events ≡ b → EndsOn order keeps_events g inputs may_stop kept before r
                 by_keeping false off = (before ++ events_in x.log, ending (before ++ events_in x.log) x.began, λ on same. absurd (let no : ⊥ = cc in no))
                 by_keeping true on =
                     let o = ordered on kept after opening opens (subst (λ (l : List (BlockLog A)). Lists l opening kept after) logs_are (lists on))

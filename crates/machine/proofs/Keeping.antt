@@ -14,6 +14,7 @@ use Rattle.tags.specs.Addresses.{element_of}
 use Rattle.element.specs.Near.{Bounds, IsNearToken}
 use Rattle.element.specs.Holding.{LaneView, Holding, Fixed, held_of, fixed_of, with_queue}
 use Rattle.schedule.specs.declared.halt.Halt.{Halt}
+use Rattle.schedule.specs.declared.take.Take.{Take}
 use Rattle.schedule.specs.Setting.{Setting}
 use Rattle.schedule.specs.State.{RunsAs}
 use Rattle.schedule.proofs.Memory.{ok_then}
@@ -25,12 +26,12 @@ use Rattle.mesh.specs.Seats.{MeshId, SeatView, AllTo, Has, Posts, Counts, Leaves
 use Rattle.mesh.proofs.Deeds.{created_same}
 use Rattle.machine.specs.declared.runner.Departure.{Departure}
 use Rattle.machine.specs.declared.runner.Runner.{Runner}
-use Rattle.rounds.specs.Turns.{HaltsLane}
 use Rattle.law_linearization.specs.History.{bounds_of}
 use Rattle.ordering.specs.Noted.{noted_in}
 use Rattle.ordering.specs.Logs.{Logs}
 use Rattle.machine.specs.Bundles.{BundleView}
-use Rattle.machine.specs.Runners.{Ended, IsDeparture, StaysAt, Runs, Keeps, IsClear, Receives, KeepsTokens, Fits, away, HasNoReason}
+use Rattle.machine.specs.ByDepth.{HasNone, HasNoReason, HaltsFreely}
+use Rattle.machine.specs.Runners.{Ended, IsDeparture, StaysAt, Runs, Keeps, IsClear, Receives, KeepsTokens, Fits, away}
 use Rattle.machine.proofs.Accounts.{IsQuiet, found_full, saw_live}
 use Rattle.machine.proofs.Steps.{ran_as, ran_quiet, ran_beside, ran_received, ran_unqueued, ran_posted}
 
@@ -493,35 +494,35 @@ module _ where
         (FoundFull i x.tokens) (found_full i x.tokens) refl found) (keeps_sparing keeps_events g mesh full spare))
 
 -- THE END
-module _ {C A L : Type 0} (keeps_events : Bool) (g : Setting) (mesh : MeshId) (may_stop : Bool) where
+module _ {C A L : Type 0} (order : Take) (keeps_events : Bool) (g : Setting) (mesh : MeshId) (may_stop : Bool) where
   left_as : (old new : Runner C A L) (departure : Departure) → held_of new.lane ≡ held_of old.lane → new.seat.mesh ≡ old.seat.mesh → new.seat.own.last
-      ≡ old.seat.own.last → IsDeparture g may_stop old departure → IsDeparture g may_stop new departure
+      ≡ old.seat.own.last → IsDeparture order g may_stop old departure → IsDeparture order g may_stop new departure
   left_as old new Departure.Lost lane at last is = tt
-  left_as old new (Departure.Halted halt) lane at last is = subst (λ (h : Holding). HaltsLane g.program g.steps may_stop h (Some halt)) (sym lane) is
+  left_as old new (Departure.Halted halt) lane at last is = subst (λ (h : Holding). HaltsFreely order g may_stop h (Some halt)) (sym lane) is
   left_as old new Departure.Rested lane at last is = (
     subst (λ (m : MeshId). Leaves m new.seat.own.last 0) (sym at) (subst (λ (l : List Commit). Leaves old.seat.mesh l 0) (sym last) is.0),
-    subst (λ (h : Holding). HasNoReason g h) (sym lane) is.1,
+    subst (λ (h : Holding). HasNoReason order g h) (sym lane) is.1,
   )
-  left_as old new Departure.Stopped lane at last is = subst (λ (h : Holding). HasNoReason g h) (sym lane) is
-  left_as old new Departure.Waited lane at last is = ap (λ (h : Holding). h.queue) lane ∙ is
+  left_as old new Departure.Stopped lane at last is = subst (λ (h : Holding). HasNoReason order g h) (sym lane) is
+  left_as old new Departure.Waited lane at last is = subst (λ (h : Holding). HasNone order h) (sym lane) is
 
   -- it left, and then called for a stop if it had to
   pub ended : (old mid new : Runner C A L) (departure : Departure) → StaysAt old mid → (departure ≢ Departure.Lost → Keeps keeps_events g mesh old mid)
-      → IsDeparture g may_stop mid departure
+      → IsDeparture order g may_stop mid departure
       → StaysAt (record mid { departure = departure }) new → Keeps keeps_events g mesh (record mid { departure = departure }) new → held_of new.lane
       ≡ held_of mid.lane → new.seat.own.last ≡ mid.seat.own.last → new.departure ≡ departure → (departure ≡ Departure.Waited → IsClear new)
-      → Ended keeps_events g mesh may_stop old new
+      → Ended order keeps_events g mesh may_stop old new
   ended old mid new departure first keeps is second again lane last same clear = record {
     stays = (second.0 ∙ first.0, second.1 ∙ first.1, second.2 ∙ first.2);
     keeps = λ ne. keeps_twice keeps_events g mesh old mid new (keeps (λ (e : departure ≡ Departure.Lost). ne (same ∙ e)))
         (keeps_twice keeps_events g mesh mid (record mid { departure = departure }) new (keeps_leaving keeps_events g mesh mid departure) again);
-    departure = subst (λ (l : Departure). IsDeparture g may_stop new l) (sym same) (left_as mid new departure lane second.0 last is);
+    departure = subst (λ (l : Departure). IsDeparture order g may_stop new l) (sym same) (left_as mid new departure lane second.0 last is);
     clear = λ w. clear (sym same ∙ w);
   }
 
   -- it waited in vain, and went on
-  pub ended_twice : (old mid new : Runner C A L) → mid.departure ≡ Departure.Waited → Ended keeps_events g mesh may_stop old mid
-      → Ended keeps_events g mesh may_stop mid new → Ended keeps_events g mesh may_stop old new
+  pub ended_twice : (old mid new : Runner C A L) → mid.departure ≡ Departure.Waited → Ended order keeps_events g mesh may_stop old mid
+      → Ended order keeps_events g mesh may_stop mid new → Ended order keeps_events g mesh may_stop old new
   ended_twice old mid new waited one two = record {
     stays = (two.stays.0 ∙ one.stays.0, two.stays.1 ∙ one.stays.1, two.stays.2 ∙ one.stays.2);
     keeps = λ ne. keeps_twice keeps_events g mesh old mid new (one.keeps (λ (e : mid.departure ≡ Departure.Lost). let no : ⊥ = cc in no)) (two.keeps ne);
@@ -530,7 +531,7 @@ module _ {C A L : Type 0} (keeps_events : Bool) (g : Setting) (mesh : MeshId) (m
   }
 
   -- one that waited in vain runs still, and is clear
-  pub waits_ready : (old mid : Runner C A L) → Runs keeps_events g mesh old → mid.departure ≡ Departure.Waited → Ended keeps_events g mesh may_stop old mid
+  pub waits_ready : (old mid : Runner C A L) → Runs keeps_events g mesh old → mid.departure ≡ Departure.Waited → Ended order keeps_events g mesh may_stop old mid
       → Runs keeps_events g mesh mid × IsClear mid
   waits_ready old mid runs waited one = (
     runs_on keeps_events g mesh old mid runs (one.keeps (λ (e : mid.departure ≡ Departure.Lost). let no : ⊥ = cc in no)),

@@ -1,10 +1,12 @@
 pub mod Tokens
 pub mod Flowing
+pub mod Spending
 pub mod Accounts
 pub mod Steps
 pub mod Beginning
 pub mod Lists
 pub mod Chosen
+pub mod Orders
 pub mod Freeing
 pub mod Freed
 pub mod Keeping

@@ -1,13 +1,13 @@
 -- What an element has done, after one more deed.
 use Rattle.std.proofs.Common.{◌≡◌, refl, sym, ◌∙◌, ap, subst, ℕ, zero, suc, ◌+◌, ◌-◌, ◌<◌, ◌≤◌, List, [], ◌∷◌, ◌++◌, length, take, drop, get_or}
 use Rattle.std.proofs.Common.{arith, ◌⊎◌, inl, inr}
-use Rattle.std.specs.Prelude.{All, IsPermutation}
+use Rattle.std.specs.Prelude.{All, IsPermutation, min}
 use Rattle.std.proofs.lemmas.Bool.{cases_lt}
-use Rattle.std.proofs.lemmas.List.{append-nil, length-append, map-append, length-take, take-append-drop}
+use Rattle.std.proofs.lemmas.List.{append-nil, length-append, length-map, map-append, length-take, nil_from_length, take-append-drop}
 use Rattle.std.proofs.lemmas.List.Elements.{All-append}
 use Rattle.std.proofs.lemmas.List.Sorted.{IsPermutation-refl, IsPermutation-sym, IsPermutation-trans, IsPermutation-append_left}
 use Rattle.std.proofs.lemmas.List.Sorted.{IsPermutation-append_right, length_permutation, All-permutation}
-use Rattle.lemmas.proofs.Permutations.{permutation_cancel}
+use Rattle.lemmas.proofs.Permutations.{permutation_cancel, permutation_same}
 use Rattle.law_confluence.proofs.Orders.{shuffled, Part as Piece, ◌⊕◌, at_first, at_last}
 use Rattle.tags.specs.declared.token.Token.{Token}
 use Rattle.tags.specs.Addresses.{element_of}
@@ -27,9 +27,9 @@ use Rattle.rounds.specs.Turns.{Turns}
 use Rattle.rounds.proofs.Counting.{grown}
 use Rattle.law_linearization.specs.History.{Act, Block, bounds_of, commit_of, count_acts, IsOwn, Chain, Flows, Blocks}
 use Rattle.law_linearization.proofs.Ends.{own_part}
-use Rattle.machine.specs.Runners.{Ran}
+use Rattle.machine.specs.Runners.{Ran, Made, Spends}
 use Rattle.machine.proofs.Tokens.{minus, minus_is}
-use Rattle.machine.proofs.Flowing.{acts_of, acts_are, flows_whole, flows_first, oldest_taken, turn_placed, turn_chain}
+use Rattle.machine.proofs.Flowing.{acts_of, acts_are, acts_take, flows_whole, flows_first, oldest_taken, turn_placed, turn_chain}
 use Rattle.machine.proofs.Accounts.{IsQuiet, still_balanced, taken_balanced, posted_balanced, committed_balanced}
 
 abbrev Ts : Type 0
@@ -152,37 +152,39 @@ flows_from : (first other : Ts) (acts : List Act) (last : Ts) → IsPermutation 
 flows_from first other [] last p flows = IsPermutation-trans first other last p flows
 flows_from first other (a ∷ later) last p (rest, takes, flows) = (rest, IsPermutation-trans first other (a.token ∷ rest) p takes, flows)
 
--- what a turn spent of the queue, what it left there, and what it made
-pub record Parted (old new : Holding) (sent : Ts) (acts : List Act) (taken : Ts) : Type 0 where
-  pub spent : Ts
-  pub keep : Ts
-  pub more : Ts
-  pub before : old.queue ≡ spent ++ keep
-  pub after : new.queue ≡ keep ++ more
-  pub many : (length spent ≤ length taken) × (length spent ≤ length old.queue) × ((length spent ≡ length taken) ⊎ (length spent ≡ length old.queue))
-  pub flows : Flows spent acts (more ++ sent)
-  -- it took these first
-  pub oldest : (later : Ts) × (taken ≡ spent ++ later)
+-- the events of a turn in which the oldest tokens were taken
+pub made_oldest : (g : Setting) (e : ℕ) (old : Holding) (ts : Ts) (new : Holding) (sent : Ts) → IsPlaced g e old
+    → (turns : Turns g.program g.steps old [] ts new sent) → Made g e old (acts_of g.program g.steps old [] ts new sent turns) ts new
+made_oldest g e old ts new sent start turns = record {
+  placed = turn_placed g e old [] ts new sent start turns;
+  chain = turn_chain g e old [] ts new sent start turns;
+  takes = acts_take g.program g.steps old [] ts new sent turns;
+  count = let c = grown g.program g.steps old [] ts new sent turns in let a = acts_are g.program g.steps old [] ts new sent turns in omega (arith, c, a);
+}
 
-pub parted : (p : _) (steps : ℕ) (old : Holding) (ts : Ts) (new : Holding) (sent : Ts) (turns : Turns p steps old [] ts new sent)
-    → Parted old new sent (acts_of p steps old [] ts new sent turns) ts
-parted p steps old ts new sent turns = by_count (cases_lt (length old.queue) (length ts))
+-- what it spent: all that it took, or all that there was
+pub spends_oldest : (p : _) (steps : ℕ) (old : Holding) (ts : Ts) (new : Holding) (sent : Ts) (turns : Turns p steps old [] ts new sent) (spent : ℕ)
+    → spent ≡ min (length ts) (length old.queue) → Spends old new sent (acts_of p steps old [] ts new sent turns) ts spent
+spends_oldest p steps old ts new sent turns spent spent_is = by_count (cases_lt (length old.queue) (length ts))
   where
     acts : List Act
     acts = acts_of p steps old [] ts new sent turns
 
-    by_count : (length old.queue < length ts) ⊎ (length ts ≤ length old.queue) → Parted old new sent acts ts
-    by_count (inl few) = record {
-      spent = old.queue;
-      keep = [];
-      more = new.queue;
-      before = sym (append-nil old.queue);
-      after = refl;
-      many = (omega (arith, few), omega arith, inr refl);
-      flows = subst (λ (l : Ts). Flows old.queue acts (new.queue ++ l)) (append-nil sent) (flows_whole p steps old [] ts new sent turns [] old.queue
-          (at_last (IsPermutation-refl old.queue) (sym (append-nil old.queue))));
-      oldest = oldest_taken p steps old [] ts new sent turns old.queue [] (sym (append-nil old.queue)) (omega (arith, few));
-    }
+    by_count : (length old.queue < length ts) ⊎ (length ts ≤ length old.queue) → Spends old new sent acts ts spent
+    by_count (inl few) =
+        let o = oldest_taken p steps old [] ts new sent turns old.queue [] (sym (append-nil old.queue)) (omega (arith, few)) in
+        record {
+          gone = old.queue;
+          later = o.0;
+          keep = [];
+          more = new.queue;
+          first = o.1;
+          count = omega (arith, few, spent_is);
+          before = permutation_same _ _ (sym (append-nil old.queue));
+          after = refl;
+          flows = subst (λ (l : Ts). Flows old.queue acts (new.queue ++ l)) (append-nil sent) (flows_whole p steps old [] ts new sent turns [] old.queue
+              (at_last (IsPermutation-refl old.queue) (sym (append-nil old.queue))));
+        }
     by_count (inr enough) =
         let k = length ts in
         let mine : Ts = take k old.queue in
@@ -191,27 +193,77 @@ parted p steps old ts new sent turns = by_count (cases_lt (length old.queue) (le
         let whole : old.queue ≡ mine ++ tail = sym (take-append-drop k old.queue) in
         let on = flows_first p steps old [] ts new sent turns mine tail [] [] mine (whole ∙ ap (λ (l : Ts). mine ++ l) (sym (append-nil tail)))
         (sym count) (at_last (IsPermutation-refl mine) (sym (append-nil mine))) in
+        let o = oldest_taken p steps old [] ts new sent turns mine tail whole (omega (arith, count)) in
         record {
-          spent = mine;
+          gone = mine;
+          later = o.0;
           keep = tail;
           more = on.0;
-          before = whole;
+          first = o.1;
+          count = omega (arith, count, enough, spent_is);
+          before = permutation_same _ _ whole;
           after = on.1;
-          many = (omega (arith, count), omega (arith, count, enough), inl count);
           flows = subst (λ (l : Ts). Flows mine acts (on.0 ++ l)) (append-nil sent) on.2;
-          oldest = oldest_taken p steps old [] ts new sent turns mine tail whole (omega (arith, count));
         }
 
 -- A turn, and its commit by two counts: tokens spent and tokens made.
 module _ (g : Setting) (mesh : MeshId) (start : Holding) (e : ℕ) (old : Holding) (ds : List Deed) (ts bs : Ts) {blocks : List Block}
-    (r : Ran g mesh e start old ds ts bs blocks) (taken : Ts) (new : Holding) (sent : Ts) (turns : Turns g.program g.steps old [] taken new sent) where
-  abbrev pub acts : List Act
-  acts = acts_of g.program g.steps old [] taken new sent turns
+    (r : Ran g mesh e start old ds ts bs blocks) (acts : List Act) (taken : Ts) (new : Holding) (sent : Ts) (m : Made g e old acts taken new) (spent : ℕ)
+    (cut : Spends old new sent acts taken spent) where
+  acts_count : length acts ≡ length taken
+  acts_count = sym (length-map acts (λ (a : Act). a.token)) ∙ ap (λ (l : Ts). length l) m.takes
 
-  pub cut : Parted old new sent acts taken
-  cut = parted g.program g.steps old taken new sent turns
+  -- a turn of some events spends a token
+  pub some_spent : 0 < length taken → 0 < spent
+  some_spent some = let a = acts_count in let c = cut.count in let f = first_some acts cut.flows (omega (arith, a, some)) in omega (arith, f, c)
+    where
+      first_some : (xs : List Act) → Flows cut.gone xs (cut.more ++ sent) → 0 < length xs → 0 < length cut.gone
+      first_some [] flows low = absurd (omega (arith, low))
+      first_some (a ∷ later) flows low = let l = length_permutation cut.gone (a.token ∷ flows.0) flows.1 in omega (arith, l)
 
-  module _ (spent made : ℕ) (spent_is : spent ≡ length cut.spent) (made_is : made ≡ length cut.more + length sent) where
+  -- the queue before it, by what it spent and what it left
+  pub before_count : length old.queue ≡ spent + length cut.keep
+  before_count =
+      let p = length_permutation old.queue (cut.gone ++ cut.keep) cut.before in
+      let l = length-append cut.gone cut.keep in
+      let c = cut.count in
+      omega (arith, p, l, c)
+
+  pub after_count : length new.queue ≡ length cut.keep + length cut.more
+  after_count = ap (λ (x : Ts). length x) cut.after ∙ length-append cut.keep cut.more
+
+  -- a turn without an event
+  pub ran_still : length taken ≡ 0 → (sent ≡ []) × Ran g mesh e start new ds ts bs blocks
+  ran_still none =
+      let few = ap (λ (x : Ts). length x) cut.first ∙ length-append cut.gone cut.later in
+      let gone : cut.gone ≡ [] = nil_from_length cut.gone (omega (arith, few, none)) in
+      let is = by_acts acts m.chain cut.flows (acts_count ∙ none) in
+      let l = length_permutation cut.gone (cut.more ++ sent) is.1 in
+      let g0 : length cut.gone ≡ 0 = ap (λ (x : Ts). length x) gone in
+      let la = length-append cut.more sent in
+      let more : cut.more ≡ [] = nil_from_length cut.more (omega (arith, l, g0, la)) in
+      let nothing : sent ≡ [] = nil_from_length sent (omega (arith, l, g0, la)) in
+      let queue : new.queue ≡ cut.keep = cut.after ∙ ap (λ (x : Ts). cut.keep ++ x) more ∙ append-nil cut.keep in
+      let perm : IsPermutation old.queue new.queue = at_last cut.before (ap (λ (x : Ts). x ++ cut.keep) gone ∙ sym queue) in
+      let a : length acts ≡ 0 = acts_count ∙ none in (
+        nothing,
+        record {
+          elements = r.elements;
+          placed = m.placed;
+          leads = subst (λ (p : Part). Blocks g e start.part blocks p) (sym is.0) r.leads;
+          count = let c = m.count in let b = r.count in omega (arith, c, b, a);
+          commits = r.commits;
+          balanced = r.balanced;
+          holds = IsPermutation-trans _ _ _ r.holds (IsPermutation-append_left bs old.queue new.queue perm);
+        },
+      )
+    where
+      by_acts : (xs : List Act) → Chain g e old.part xs new.part → Flows cut.gone xs (cut.more ++ sent) → length xs ≡ 0
+          → (new.part ≡ old.part) × IsPermutation cut.gone (cut.more ++ sent)
+      by_acts [] chain flows none = (chain, flows)
+      by_acts (a ∷ later) chain flows none = absurd (omega (arith, none))
+
+  module _ (made : ℕ) (made_is : made ≡ length cut.more + length sent) where
     abbrev still : Ts
     still = take (length new.queue - (made - length sent)) new.queue ++ bs
 
@@ -238,38 +290,38 @@ module _ (g : Setting) (mesh : MeshId) (start : Holding) (e : ℕ) (old : Holdin
     left_is = ap (λ (n : ℕ). drop n new.queue ++ sent) place ∙ ap (λ (q : Ts). drop (length cut.keep) q ++ sent) cut.after
         ∙ ap (λ (l : Ts). l ++ sent) (drop_front cut.keep cut.more)
 
-    parts : IsPermutation ts (still ++ cut.spent)
-    parts = at_last (IsPermutation-trans _ _ _ (at_last r.holds (ap (λ (q : Ts). q ++ bs) cut.before))
-        (shuffled (cut.spent ∷ cut.keep ∷ bs ∷ []) ((Piece 0 ⊕ Piece 1) ⊕ Piece 2) ((Piece 1 ⊕ Piece 2) ⊕ Piece 0) refl))
-        (ap (λ (l : Ts). l ++ cut.spent) (sym still_is))
+    parts : IsPermutation ts (still ++ cut.gone)
+    parts = at_last (IsPermutation-trans _ _ _ (IsPermutation-trans _ _ _ r.holds (IsPermutation-append_left bs old.queue (cut.gone ++ cut.keep) cut.before))
+        (shuffled (cut.gone ∷ cut.keep ∷ bs ∷ []) ((Piece 0 ⊕ Piece 1) ⊕ Piece 2) ((Piece 1 ⊕ Piece 2) ⊕ Piece 0) refl))
+        (ap (λ (l : Ts). l ++ cut.gone) (sym still_is))
 
     -- what it held and holds no more
-    pub minus_gone : IsPermutation (minus ts still) cut.spent
-    minus_gone = minus_is ts still cut.spent parts
+    pub minus_gone : IsPermutation (minus ts still) cut.gone
+    minus_gone = minus_is ts still cut.gone parts
 
     -- the tokens that its first events took
-    pub first_gone : take spent taken ≡ cut.spent
-    first_gone = ap (λ (n : ℕ). take n taken) spent_is ∙ ap (λ (l : Ts). take (length cut.spent) l) cut.oldest.1 ∙ take_front cut.spent cut.oldest.0
+    pub first_gone : take spent taken ≡ cut.gone
+    first_gone = ap (λ (n : ℕ). take n taken) cut.count ∙ ap (λ (l : Ts). take (length cut.gone) l) cut.first ∙ take_front cut.gone cut.later
 
-    module _ (gone : Ts) (gone_is : IsPermutation gone cut.spent) where
+    module _ (gone : Ts) (gone_is : IsPermutation gone cut.gone) where
       pub gone_count : length gone ≡ spent
-      gone_count = let l = length_permutation gone cut.spent gone_is in omega (arith, l, spent_is)
+      gone_count = let l = length_permutation gone cut.gone gone_is in let c = cut.count in omega (arith, l, c)
 
       pub left_count : length departure ≡ made
       left_count = ap (λ (l : Ts). length l) left_is ∙ length-append cut.more sent ∙ sym made_is
 
       pub gone_has : IsPermutation ts (gone ++ still)
-      gone_has = IsPermutation-trans _ _ _ parts (IsPermutation-trans _ _ _ (shuffled (still ∷ cut.spent ∷ []) (Piece 0 ⊕ Piece 1) (Piece 1 ⊕ Piece 0)
-          refl) (IsPermutation-append_left still cut.spent gone (IsPermutation-sym gone cut.spent gone_is)))
+      gone_has = IsPermutation-trans _ _ _ parts (IsPermutation-trans _ _ _ (shuffled (still ∷ cut.gone ∷ []) (Piece 0 ⊕ Piece 1) (Piece 1 ⊕ Piece 0)
+          refl) (IsPermutation-append_left still cut.gone gone (IsPermutation-sym gone cut.gone gone_is)))
 
-      spent_mine : AllTo g.elements e cut.spent
+      spent_mine : AllTo g.elements e cut.gone
       spent_mine =
           let z = old.part.shape in
-          let all : All (λ (t : Token). element_of z.elements t.to ≡ z.element) (cut.spent ++ cut.keep) = subst
-          (λ (l : Ts). All (λ (t : Token). element_of z.elements t.to ≡ z.element) l) cut.before r.placed.sound.addressed in
-          let first = front cut.spent cut.keep (λ (t : Token). element_of z.elements t.to ≡ z.element) all in
-          subst (λ (n : ℕ). All (λ (t : Token). element_of g.elements t.to ≡ n) cut.spent) r.placed.element
-          (subst (λ (n : ℕ). All (λ (t : Token). element_of n t.to ≡ z.element) cut.spent) r.placed.elements first)
+          let all : All (λ (t : Token). element_of z.elements t.to ≡ z.element) (cut.gone ++ cut.keep) =
+          All-permutation (λ (t : Token). element_of z.elements t.to ≡ z.element) old.queue (cut.gone ++ cut.keep) cut.before r.placed.sound.addressed in
+          let first = front cut.gone cut.keep (λ (t : Token). element_of z.elements t.to ≡ z.element) all in
+          subst (λ (n : ℕ). All (λ (t : Token). element_of g.elements t.to ≡ n) cut.gone) r.placed.element
+          (subst (λ (n : ℕ). All (λ (t : Token). element_of n t.to ≡ z.element) cut.gone) r.placed.elements first)
         where
           get_front : (xs ys : Ts) (k : ℕ) (d : Token) → k < length xs → get_or (xs ++ ys) k d ≡ get_or xs k d
           get_front [] ys k d low = absurd (omega (arith, low))
@@ -281,7 +333,7 @@ module _ (g : Setting) (mesh : MeshId) (start : Holding) (e : ℕ) (old : Holdin
               in subst P (get_front xs ys k d low) (all k d more)
 
       pub gone_mine : AllTo g.elements e gone
-      gone_mine = All-permutation (λ (t : Token). element_of g.elements t.to ≡ e) cut.spent gone (IsPermutation-sym gone cut.spent gone_is) spent_mine
+      gone_mine = All-permutation (λ (t : Token). element_of g.elements t.to ≡ e) cut.gone gone (IsPermutation-sym gone cut.gone gone_is) spent_mine
 
       abbrev pub block : Block
       block = record { element = e; spent = gone; made = departure; acts = acts }
@@ -291,16 +343,13 @@ module _ (g : Setting) (mesh : MeshId) (start : Holding) (e : ℕ) (old : Holdin
       ran_committed unposted out =
           let rest : IsPermutation unposted still = permutation_cancel gone unposted still (IsPermutation-trans _ _ _ (IsPermutation-sym _ _ out) gone_has) in
           let flows : Flows gone acts departure = subst (λ (l : Ts). Flows gone acts l) (sym left_is)
-          (flows_from gone cut.spent acts (cut.more ++ sent) gone_is cut.flows) in
-          let new_placed = turn_placed g e old [] taken new sent r.placed turns in
+          (flows_from gone cut.gone acts (cut.more ++ sent) gone_is cut.flows) in
           let count : new.made ≡ start.made + count_acts (blocks ++ block ∷ [])
-          = (let c = grown g.program g.steps old [] taken new sent turns in let a = acts_are g.program g.steps old [] taken new sent turns
-          in let m = more_acts blocks block in let b = r.count in omega (arith, c, a, m, b)) in
+          = (let c = m.count in let k = more_acts blocks block in let b = r.count in omega (arith, c, k, b)) in
           record {
             elements = r.elements;
-            placed = new_placed;
-            leads = more_blocks g e start.part old.part new.part blocks block r.leads (own_part g e new new_placed) flows
-                (turn_chain g e old [] taken new sent r.placed turns);
+            placed = m.placed;
+            leads = more_blocks g e start.part old.part new.part blocks block r.leads (own_part g e new m.placed) flows m.chain;
             count = count;
             commits = map-append commit_of blocks (block ∷ []) ∙ ap (λ (l : List Commit). l ++ commit_of block ∷ []) r.commits
                 ∙ sym (commits_more e ds (Committed gone departure));
@@ -310,11 +359,3 @@ module _ (g : Setting) (mesh : MeshId) (start : Holding) (e : ℕ) (old : Holdin
                 (at_last (shuffled (cut.more ∷ sent ∷ cut.keep ∷ bs ∷ []) ((Piece 0 ⊕ Piece 1) ⊕ (Piece 2 ⊕ Piece 3))
                 ((Piece 2 ⊕ Piece 0) ⊕ (Piece 3 ⊕ Piece 1)) refl) (ap (λ (l : Ts). l ++ (bs ++ sent)) (sym cut.after))));
           }
-
-  -- a turn without an event
-  pub ran_still : length taken ≡ 0 → (new ≡ old) × (sent ≡ [])
-  ran_still none = by_list taken turns none
-    where
-      by_list : (us : Ts) → Turns g.program g.steps old [] us new sent → length us ≡ 0 → (new ≡ old) × (sent ≡ [])
-      by_list [] t none = t
-      by_list (u ∷ us) t none = absurd (omega (arith, none))

@@ -1,25 +1,27 @@
 -- What holds of an element that runs freely.
-use Rattle.std.specs.Prelude.{◌≡◌, ◌≢◌, ℕ, ◌+◌, ◌-◌, ◌≤◌, ◌<◌, ◌^◌, ◌⊎◌, List, [], ◌++◌, map, take, drop, length, Bool, Some, IsPermutation, All}
+use Rattle.std.specs.Prelude.{◌≡◌, ◌≢◌, ℕ, ◌+◌, ◌-◌, ◌≤◌, ◌<◌, ◌^◌, List, [], ◌++◌, map, take, drop, length, Bool, Some, IsPermutation, All}
 use Rattle.std.specs.Prelude.{slice_index_or, ⊤, true, if◌then◌else◌, ◌∷◌}
 use Rattle.std.specs.List.{flat_map}
 use Rattle.tags.specs.declared.token.Token.{Token}
 use Rattle.element.specs.Near.{IsNearToken}
-use Rattle.element.specs.Holding.{Holding, held_of, fixed_of, with_queue, IsSoundLane}
+use Rattle.element.specs.Holding.{Holding, held_of, fixed_of, with_queue}
+use Rattle.schedule.specs.declared.take.Take.{Take}
 use Rattle.schedule.specs.Setting.{Setting}
 use Rattle.schedule.specs.State.{IsPlaced, RunsAs}
 use Rattle.schedule.specs.Steps.{logged}
 use Rattle.mesh.specs.declared.view.Deed.{Deed}
 use Rattle.mesh.specs.Deeds.{commits_of, created}
 use Rattle.mesh.specs.Seats.{MeshId, AllTo, Leaves}
-use Rattle.rounds.specs.Turns.{HaltsLane, Turns, by}
+use Rattle.rounds.specs.Turns.{by}
 use Rattle.ordering.specs.declared.log.Counts.{Counts}
 use Rattle.ordering.specs.Noted.{Noted, noted_in}
 use Rattle.ordering.specs.Logs.{Logs}
 use Rattle.semantics.specs.Machine.{Events}
-use Rattle.law_linearization.specs.History.{Block, Blocks, bounds_of, commit_of, count_acts}
+use Rattle.law_linearization.specs.History.{Act, Block, Blocks, Chain, Flows, bounds_of, commit_of, count_acts}
 use Rattle.law_linearization.specs.HistoryLaws.{IsBalanced}
 use Rattle.machine.specs.Bundles.{BundleView}
 use Rattle.machine.specs.Blocks.{turn_of, IsShort}
+use Rattle.machine.specs.ByDepth.{HasNone, HasNoReason, HaltsFreely}
 use Rattle.machine.specs.declared.runner.Departure.{Departure}
 use Rattle.machine.specs.declared.runner.Runner.{Runner}
 
@@ -85,29 +87,45 @@ pub record Receives {C A L : Type 0} (g : Setting) (old : Runner C A L) (tokens 
 abbrev pub StaysAt : {C A L : Type 0} → Runner C A L → Runner C A L → Type 0
 StaysAt old new = (new.seat.mesh ≡ old.seat.mesh) × (new.seat.joined ≡ old.seat.joined) × (new.seat.own.element ≡ old.seat.own.element)
 
--- it had no token left, or has made as many events as its turns have
-abbrev pub HasNoReason : Setting → Holding → Type 0
-HasNoReason g h = (h.queue ≡ []) ⊎ (turn_of g h.part.shape.element ≤ h.made)
-
--- why it left; `may_stop`: the gate may answer false
-abbrev pub IsDeparture : {C A L : Type 0} → Setting → Bool → Runner C A L → Departure → Type 0
-IsDeparture g may_stop r Departure.Lost = ⊤
-IsDeparture g may_stop r (Departure.Halted halt) = HaltsLane g.program g.steps may_stop (held_of r.lane) (Some halt)
-IsDeparture g may_stop r Departure.Rested = Leaves r.seat.mesh r.seat.own.last 0 × HasNoReason g (held_of r.lane)
-IsDeparture g may_stop r Departure.Stopped = HasNoReason g (held_of r.lane)
-IsDeparture g may_stop r Departure.Waited = (held_of r.lane).queue ≡ []
+-- why it left, by the order in which the elements take their tokens; `may_stop`: the gate may answer false
+abbrev pub IsDeparture : {C A L : Type 0} → Take → Setting → Bool → Runner C A L → Departure → Type 0
+IsDeparture order g may_stop r Departure.Lost = ⊤
+IsDeparture order g may_stop r (Departure.Halted halt) = HaltsFreely order g may_stop (held_of r.lane) (Some halt)
+IsDeparture order g may_stop r Departure.Rested = Leaves r.seat.mesh r.seat.own.last 0 × HasNoReason order g (held_of r.lane)
+IsDeparture order g may_stop r Departure.Stopped = HasNoReason order g (held_of r.lane)
+IsDeparture order g may_stop r Departure.Waited = HasNone order (held_of r.lane)
 
 -- what is known of an element that has run
-pub record Ended {C A L : Type 0} (keeps_events : Bool) (g : Setting) (mesh : MeshId) (may_stop : Bool) (old new : Runner C A L) : Type 0 where
+pub record Ended {C A L : Type 0} (order : Take) (keeps_events : Bool) (g : Setting) (mesh : MeshId) (may_stop : Bool) (old new : Runner C A L) : Type 0 where
   pub stays : StaysAt old new
   pub keeps : new.departure ≢ Departure.Lost → Keeps keeps_events g mesh old new
-  pub departure : IsDeparture g may_stop new new.departure
+  pub departure : IsDeparture order g may_stop new new.departure
   -- one that waited in vain may go on
   pub clear : new.departure ≡ Departure.Waited → IsClear new
 
+-- Events of element e, one after another: they took these tokens, and led its part on.
+pub record Made (g : Setting) (e : ℕ) (old : Holding) (acts : List Act) (taken : List Token) (new : Holding) : Type 0 where
+  pub placed : IsPlaced g e new
+  pub chain : Chain g e old.part acts new.part
+  pub takes : map (λ (a : Act). a.token) acts ≡ taken
+  pub count : new.made ≡ old.made + length acts
+
+-- WHAT A BLOCK SPENT, and what it made: of the tokens that it took, the first so many. They were in the queue before it, in any places. The others of that
+-- queue are still the first ones, and behind them is what the block made and left there.
+pub record Spends (old new : Holding) (sent : List Token) (acts : List Act) (taken : List Token) (spent : ℕ) : Type 0 where
+  pub gone : List Token
+  pub later : List Token
+  pub keep : List Token
+  pub more : List Token
+  pub first : taken ≡ gone ++ later
+  pub count : spent ≡ length gone
+  pub before : IsPermutation old.queue (gone ++ keep)
+  pub after : new.queue ≡ keep ++ more
+  pub flows : Flows gone acts (more ++ sent)
+
 -- The lane has taken tokens since it was `old`, an event each, and the block that they make has no commit yet. The queue had
--- `before` tokens before, and `events` events were made.
-pub record HasMade {C A L : Type 0} (keeps_events : Bool) (g : Setting) (mesh : MeshId) (start old : Holding) (before events : ℕ)
+-- `before` tokens before, `events` events were made, and they spent `spent` of these tokens.
+pub record HasMade {C A L : Type 0} (keeps_events : Bool) (g : Setting) (mesh : MeshId) (start old : Holding) (before events spent : ℕ)
     (r : Runner C A L) : Type 0 where
   pub at : r.seat.mesh ≡ mesh
   pub alone : r.seat.joined ≡ []
@@ -118,9 +136,10 @@ pub record HasMade {C A L : Type 0} (keeps_events : Bool) (g : Setting) (mesh : 
   pub short : All (IsShort g) blocks
   pub tidy : IsTidy g r
   pub noted : keeps_events ≡ true → Logs (noted_in r.notes) blocks
+  pub acts : List Act
   pub taken : List Token
-  pub turns : Turns g.program g.steps old [] taken (held_of r.lane) r.sent.items
-  pub sound : IsSoundLane g.program (held_of r.lane)
+  pub made : Made g r.seat.own.element old acts taken (held_of r.lane)
+  pub spends : Spends old (held_of r.lane) r.sent.items acts taken spent
   pub before_is : before ≡ length old.queue
   pub events_are : events ≡ length taken
   -- no more than a turn of the element has

@@ -6,6 +6,7 @@ use Rattle.tags.specs.declared.token.Token.{Token}
 use Rattle.element.specs.Near.{Bounds}
 use Rattle.element.specs.Holding.{Holding, Fixed, held_of, fixed_of}
 use Rattle.schedule.specs.declared.halt.Halt.{Halt}
+use Rattle.schedule.specs.declared.take.Take.{Take}
 use Rattle.schedule.specs.Setting.{Setting}
 use Rattle.mesh.specs.Seats.{MeshId, SeatView}
 use Rattle.semantics.specs.Machine.{Events}
@@ -89,6 +90,6 @@ abbrev pub AllWait : {C A L : Type 0} → List (CachePadded (Runner C A L)) → 
 AllWait {C} {A} {L} ps = All (λ (p : CachePadded (Runner C A L)). departure_of p ≡ Departure.Waited) ps
 
 -- all have run
-abbrev pub AllEnded : {C A L : Type 0} → Bool → Setting → MeshId → Bool → List (CachePadded (Runner C A L)) → List (CachePadded (Runner C A L)) → Type 0
-AllEnded keeps_events g mesh may_stop olds news = (i : ℕ) (d : _) → i < length olds
-    → Ended keeps_events g mesh may_stop (padded_value (slice_index_or olds i d)) (padded_value (slice_index_or news i d))
+abbrev pub AllEnded : {C A L : Type 0} → Take → Bool → Setting → MeshId → Bool → List (CachePadded (Runner C A L)) → List (CachePadded (Runner C A L)) → Type 0
+AllEnded order keeps_events g mesh may_stop olds news = (i : ℕ) (d : _) → i < length olds
+    → Ended order keeps_events g mesh may_stop (padded_value (slice_index_or olds i d)) (padded_value (slice_index_or news i d))

@@ -1,6 +1,7 @@
 //! What an element that runs freely holds besides its lane and its seat.
 
 use crate::bundle::NearBundle;
+use element::grant_order::GrantOrder;
 use ordering::log::BlockLog;
 use packed::token::PackedToken;
 use schedule::log::{EventLog, Log};
@@ -14,6 +15,7 @@ pub struct Belongings<A: Allocator, L: Log> {
     pub unqueued: NearBundle<A>,
     pub spare: Vec<NearBundle<A>, A>,
     pub log: EventLog<A, L>,
+    pub order: GrantOrder<A>,
     pub notes: BlockLog<A>,
     pub alloc: A,
 }

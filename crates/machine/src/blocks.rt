@@ -6,23 +6,27 @@ ghost use Rattle.schedule.specs.State.{setting_in};
 ghost use Rattle.schedule.specs.Setting.{IsGoodSetting};
 ghost use Rattle.mesh.specs.Deeds.{created};
 ghost use Rattle.mesh.specs.Seats.{AllTo, Has, Commits};
-ghost use Rattle.rounds.specs.Turns.{HaltsLane};
+ghost use Rattle.schedule.specs.declared.take.Take.{Take};
 ghost use Rattle.ordering.specs.Noted.{noted_in, with_block};
 ghost use Rattle.machine.specs.Blocks.{turn_of};
-ghost use Rattle.machine.specs.Runners.{IsRunning, Runs, Keeps, IsClear, StaysAt, HasNoReason, HasMade, NotesBlock, tokens_of};
+ghost use Rattle.machine.specs.ByDepth.{HasNoReason, HaltsFreely};
+ghost use Rattle.machine.specs.Runners.{IsRunning, Runs, Keeps, IsClear, StaysAt, HasMade, NotesBlock, tokens_of};
 
 use crate::bundle::NearMesh;
+use crate::by_depth::{live_besides, take_turn_by_depth};
 use crate::runner::{Lost, Runner};
 use crate::turn_length::turn_of;
 use element::instructions::Instructions;
+use element::requests::requests_before;
 use mesh::Ask;
 use ordering::log::{BlockLog, Counts};
 use packed::token::PackedToken;
-use rounds::{Gate, take_turn};
+use rounds::{Gate, are_few, take_turn};
 use schedule::halt::Halt;
 use schedule::log::Log;
 use schedule::main_code::MainCode;
 use schedule::shape::Shape;
+use schedule::take::Take;
 use std::alloc::{AllocError, Allocator};
 use std::marker::Brand;
 use tags::token::Token;
@@ -138,7 +142,7 @@ fn note_block<C: Instructions, A: Allocator, L: Log>(
     Ok(())
 }
 
-// Commits a block of `events` events, before which the queue had `before` tokens. The oldest of these were taken, and what
+// Commits a block of `events` events, before which the queue had `before` tokens. The first events took `spent` of these, and what
 // the block left is last in the queue, or was sent. It needs no memory, so events are always committed.
 fn commit<C: MainCode, A: Allocator, L: Log>(
     runner: &mut Runner<'_, C, A, L>,
@@ -146,12 +150,13 @@ fn commit<C: MainCode, A: Allocator, L: Log>(
     shape: &Shape<'_, C>,
     before: u64,
     events: u64,
+    spent: u64,
 ) -> Result<(), Lost>
     requires made { (start : Holding) × (old : Holding) × HasMade L.KEEPS_EVENTS (setting_in C.program C.width shape.now) mesh.now start old before
-        events runner.old }
+        events spent runner.old }
     ensures stays { StaysAt runner.old runner.new }
     ensures keeps { OnOk result ((start : Holding) (old : Holding) → HasMade L.KEEPS_EVENTS (setting_in C.program C.width shape.now) mesh.now start
-        old before events runner.old → IsRunning L.KEEPS_EVENTS (setting_in C.program C.width shape.now) mesh.now start runner.new) }
+        old before events spent runner.old → IsRunning L.KEEPS_EVENTS (setting_in C.program C.width shape.now) mesh.now start runner.new) }
     ensures lane { held_of runner.new.lane ≡ held_of runner.old.lane }
     ensures others { (runner.new.unqueued.tokens ≡ runner.old.unqueued.tokens) × (runner.new.bundled ≡ runner.old.bundled) }
 {
@@ -159,7 +164,6 @@ fn commit<C: MainCode, A: Allocator, L: Log>(
     if events == 0 {
         return Ok(());
     }
-    let spent = events.min(before);
     let left = runner.lane.queue().len() as u64 - (before - spent);
     let sent = runner.sent.len() as u64;
     let room = MOST - runner.created;
@@ -185,8 +189,8 @@ fn make_events<C: MainCode, A: Allocator + Clone, L: Log>(
     requires clear { IsClear runner.old }
     ensures stays { StaysAt runner.old runner.new }
     ensures keeps { OnOk result (Keeps L.KEEPS_EVENTS (setting_in C.program C.width shape.now) mesh.now runner.old runner.new) }
-    ensures halts { IfOk result (λ halt. HaltsLane (C.program shape.now.code.now) shape.now.steps false (held_of runner.new.lane) halt) }
-    ensures whole { IfOk result (λ halt. halt ≡ None → HasNoReason (setting_in C.program C.width shape.now) (held_of runner.new.lane)) }
+    ensures halts { IfOk result (λ halt. HaltsFreely Take.Oldest (setting_in C.program C.width shape.now) false (held_of runner.new.lane) halt) }
+    ensures whole { IfOk result (λ halt. halt ≡ None → HasNoReason Take.Oldest (setting_in C.program C.width shape.now) (held_of runner.new.lane)) }
     ensures unbundled { (runner.new.unqueued.tokens ≡ []) × (runner.new.bundled ≡ 0) }
     ensures few { runner.new.lane.held.made ≤ runner.old.lane.held.made + turn_of (setting_in C.program C.width shape.now)
         runner.old.lane.held.part.shape.element }
@@ -202,12 +206,49 @@ fn make_events<C: MainCode, A: Allocator + Clone, L: Log>(
     } = runner;
     let halt = take_turn(lane, sent, log, turn);
     let events = runner.lane.made() - first;
-    commit(runner, mesh, shape, before, events)?;
+    let spent = events.min(before);
+    commit(runner, mesh, shape, before, events, spent)?;
     Ok(halt)
 }
 
-/// Makes a block of events, if the element has a token and the gate lets it.
-pub fn make_block<C: MainCode, A: Allocator + Clone, L: Log, G: Gate>(
+// Makes a turn of events by depth, and commits them. There are `ordinary` tokens that the element does not hold back.
+fn make_events_by_depth<C: MainCode, A: Allocator + Clone, L: Log>(
+    runner: &mut Runner<'_, C, A, L>,
+    mesh: &NearMesh<A>,
+    shape: &Shape<'_, C>,
+    ordinary: u128,
+) -> Result<Option<Halt>, Lost>
+    requires good { IsGoodSetting (setting_in C.program C.width shape.now) }
+    requires runs { Runs L.KEEPS_EVENTS (setting_in C.program C.width shape.now) mesh.now runner.old }
+    requires clear { IsClear runner.old }
+    requires first { runner.old.lane.held.part.shape.element ≡ 0 }
+    requires few { ordinary < 2 ^ 80 }
+    ensures stays { StaysAt runner.old runner.new }
+    ensures keeps { OnOk result (Keeps L.KEEPS_EVENTS (setting_in C.program C.width shape.now) mesh.now runner.old runner.new) }
+    ensures halts { IfOk result (λ halt. HaltsFreely Take.Depth (setting_in C.program C.width shape.now) false (held_of runner.new.lane) halt) }
+    ensures whole { IfOk result (λ halt. halt ≡ None → HasNoReason Take.Depth (setting_in C.program C.width shape.now) (held_of runner.new.lane)) }
+    ensures unbundled { (runner.new.unqueued.tokens ≡ []) × (runner.new.bundled ≡ 0) }
+    ensures few { runner.new.lane.held.made ≤ runner.old.lane.held.made + turn_of (setting_in C.program C.width shape.now)
+        runner.old.lane.held.part.shape.element }
+{
+    let before = runner.lane.queue().len() as u64;
+    let first = runner.lane.made();
+    let turn = turn_of(shape, runner.lane.element());
+    let Runner {
+        lane,
+        sent,
+        log,
+        order,
+        ..
+    } = runner;
+    let turned = take_turn_by_depth(lane, order, sent, log, turn, ordinary);
+    let events = runner.lane.made() - first;
+    commit(runner, mesh, shape, before, events, turned.spent)?;
+    Ok(turned.halt)
+}
+
+// Makes a block of events, if the element has a token and the gate lets it.
+fn make_block_by_age<C: MainCode, A: Allocator + Clone, L: Log, G: Gate>(
     runner: &mut Runner<'_, C, A, L>,
     mesh: &NearMesh<A>,
     shape: &Shape<'_, C>,
@@ -218,8 +259,8 @@ pub fn make_block<C: MainCode, A: Allocator + Clone, L: Log, G: Gate>(
     requires clear { IsClear runner.old }
     ensures stays { StaysAt runner.old runner.new }
     ensures keeps { OnOk result (Keeps L.KEEPS_EVENTS (setting_in C.program C.width shape.now) mesh.now runner.old runner.new) }
-    ensures halts { IfOk result (λ halt. HaltsLane (C.program shape.now.code.now) shape.now.steps G.may_stop (held_of runner.new.lane) halt) }
-    ensures whole { IfOk result (λ halt. halt ≡ None → HasNoReason (setting_in C.program C.width shape.now) (held_of runner.new.lane)) }
+    ensures halts { IfOk result (λ halt. HaltsFreely Take.Oldest (setting_in C.program C.width shape.now) G.may_stop (held_of runner.new.lane) halt) }
+    ensures whole { IfOk result (λ halt. halt ≡ None → HasNoReason Take.Oldest (setting_in C.program C.width shape.now) (held_of runner.new.lane)) }
     ensures unbundled { (runner.new.unqueued.tokens ≡ []) × (runner.new.bundled ≡ 0) }
     ensures few { runner.new.lane.held.made ≤ runner.old.lane.held.made + turn_of (setting_in C.program C.width shape.now)
         runner.old.lane.held.part.shape.element }
@@ -232,4 +273,70 @@ pub fn make_block<C: MainCode, A: Allocator + Clone, L: Log, G: Gate>(
     }
     runner.blocks = runner.blocks.wrapping_add(1);
     make_events(runner, mesh, shape)
+}
+
+// The same where the element holds requests for frames back. It makes no block where it has no token but such requests, and grants none of them.
+fn make_block_by_depth<C: MainCode, A: Allocator + Clone, L: Log, G: Gate>(
+    runner: &mut Runner<'_, C, A, L>,
+    mesh: &NearMesh<A>,
+    shape: &Shape<'_, C>,
+    gate: &G,
+) -> Result<Option<Halt>, Lost>
+    requires good { IsGoodSetting (setting_in C.program C.width shape.now) }
+    requires runs { Runs L.KEEPS_EVENTS (setting_in C.program C.width shape.now) mesh.now runner.old }
+    requires clear { IsClear runner.old }
+    requires first { runner.old.lane.held.part.shape.element ≡ 0 }
+    ensures stays { StaysAt runner.old runner.new }
+    ensures keeps { OnOk result (Keeps L.KEEPS_EVENTS (setting_in C.program C.width shape.now) mesh.now runner.old runner.new) }
+    ensures halts { IfOk result (λ halt. HaltsFreely Take.Depth (setting_in C.program C.width shape.now) G.may_stop (held_of runner.new.lane) halt) }
+    ensures whole { IfOk result (λ halt. halt ≡ None → HasNoReason Take.Depth (setting_in C.program C.width shape.now) (held_of runner.new.lane)) }
+    ensures unbundled { (runner.new.unqueued.tokens ≡ []) × (runner.new.bundled ≡ 0) }
+    ensures few { runner.new.lane.held.made ≤ runner.old.lane.held.made + turn_of (setting_in C.program C.width shape.now)
+        runner.old.lane.held.part.shape.element }
+{
+    let tokens = runner.lane.queue().len();
+    if tokens == 0 {
+        return Ok(None);
+    }
+    let held = requests_before(runner.lane.queue(), 0);
+    let ordinary = live_besides(runner, mesh, shape, held);
+    if held == tokens && !are_few(&runner.lane, ordinary) {
+        return Ok(None);
+    }
+    if !gate.go_on(runner.lane.element(), runner.blocks) {
+        return Ok(Some(Halt::Stop));
+    }
+    runner.blocks = runner.blocks.wrapping_add(1);
+    make_events_by_depth(runner, mesh, shape, ordinary)
+}
+
+/// Makes a block of events in this order of the tokens, if the element has a token that it may take and the gate lets it.
+pub fn make_block<C: MainCode, A: Allocator + Clone, L: Log, G: Gate>(
+    runner: &mut Runner<'_, C, A, L>,
+    mesh: &NearMesh<A>,
+    shape: &Shape<'_, C>,
+    gate: &G,
+    order: Take,
+) -> Result<Option<Halt>, Lost>
+    requires good { IsGoodSetting (setting_in C.program C.width shape.now) }
+    requires runs { Runs L.KEEPS_EVENTS (setting_in C.program C.width shape.now) mesh.now runner.old }
+    requires clear { IsClear runner.old }
+    ensures stays { StaysAt runner.old runner.new }
+    ensures keeps { OnOk result (Keeps L.KEEPS_EVENTS (setting_in C.program C.width shape.now) mesh.now runner.old runner.new) }
+    ensures halts { IfOk result (λ halt. HaltsFreely order (setting_in C.program C.width shape.now) G.may_stop (held_of runner.new.lane) halt) }
+    ensures whole { IfOk result (λ halt. halt ≡ None → HasNoReason order (setting_in C.program C.width shape.now) (held_of runner.new.lane)) }
+    ensures unbundled { (runner.new.unqueued.tokens ≡ []) × (runner.new.bundled ≡ 0) }
+    ensures few { runner.new.lane.held.made ≤ runner.old.lane.held.made + turn_of (setting_in C.program C.width shape.now)
+        runner.old.lane.held.part.shape.element }
+{
+    match order {
+        Take::Oldest => make_block_by_age(runner, mesh, shape, gate),
+        Take::Depth => {
+            if runner.lane.element() == 0 {
+                make_block_by_depth(runner, mesh, shape, gate)
+            } else {
+                make_block_by_age(runner, mesh, shape, gate)
+            }
+        }
+    }
 }

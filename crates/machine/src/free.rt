@@ -17,7 +17,7 @@ ghost use Rattle.rounds.specs.Rounds.{ShowsOn};
 ghost use Rattle.machine.specs.declared.runner.Departure.{Departure};
 ghost use Rattle.machine.specs.Bundles.{bounds_within};
 ghost use Rattle.machine.specs.Runners.{Runs, IsClear, Ended};
-ghost use Rattle.machine.specs.Ends.{reasons_of, EndsFreely, EndsOn};
+ghost use Rattle.machine.specs.Ends.{reasons_of, EndsFreely, EndsTaking, EndsOn};
 ghost use Rattle.machine.specs.Starts.{IsNew, Lists, lanes_in, lanes_fixed, seats_in, departures_in, IsHaltOf, AllWait, AllEnded};
 
 use crate::attendance::Attendance;
@@ -39,6 +39,7 @@ use schedule::main_code::MainCode;
 use schedule::report::Report;
 use schedule::setup::Setup;
 use schedule::shape::Shape;
+use schedule::take::Take;
 use std::alloc::{AllocError, Allocator};
 use std::sync::Wait;
 use std::thread;
@@ -67,12 +68,13 @@ fn run_each<
     shape: &Shape<'_, C>,
     gate: &G,
     attendance: &Attendance,
+    take: Take,
     is_first: bool,
 )
     requires some { 0 < length runners.old }
     requires good { IsGoodSetting (setting_in C.program C.width shape.now) }
     requires ready { All (λ p. Runs L.KEEPS_EVENTS (setting_in C.program C.width shape.now) mesh.now (padded_value p) × IsClear (padded_value p)) runners.old }
-    ensures each { AllEnded L.KEEPS_EVENTS (setting_in C.program C.width shape.now) mesh.now G.may_stop runners.old runners.new }
+    ensures each { AllEnded take L.KEEPS_EVENTS (setting_in C.program C.width shape.now) mesh.now G.may_stop runners.old runners.new }
     ensures count { length runners.new ≡ length runners.old }
 {
     let threads = threads_of(is_first, runners.len());
@@ -83,14 +85,14 @@ fn run_each<
         &|_: usize, padded: &mut CachePadded<Runner<'_, C, A, L>>| -> ()
             requires { IsGoodSetting (setting_in C.program C.width shape.now) × Runs L.KEEPS_EVENTS (setting_in C.program C.width shape.now) mesh.now
                 (padded_value padded.old) × IsClear (padded_value padded.old) }
-            ensures { Ended L.KEEPS_EVENTS (setting_in C.program C.width shape.entry.now) mesh.entry.now G.may_stop (padded_value padded.old)
+            ensures { Ended take L.KEEPS_EVENTS (setting_in C.program C.width shape.entry.now) mesh.entry.now G.may_stop (padded_value padded.old)
                 (padded_value padded.new) }
         {
             let runner: &mut Runner<'_, C, A, L> = padded;
             if is_first {
                 turns::begin(runner, gate, attendance);
             }
-            turns::run(rt, runner, mesh, shape, gate, attendance);
+            turns::run(rt, runner, mesh, shape, gate, attendance, take);
         },
     );
 }
@@ -125,20 +127,21 @@ fn run_passes<
     mesh: &NearMesh<A>,
     shape: &Shape<'_, C>,
     gate: &G,
+    take: Take,
 )
     requires some { 0 < length runners.old }
     requires good { IsGoodSetting (setting_in C.program C.width shape.now) }
     requires ready { All (λ p. Runs L.KEEPS_EVENTS (setting_in C.program C.width shape.now) mesh.now (padded_value p) × IsClear (padded_value p)) runners.old }
-    ensures each { AllEnded L.KEEPS_EVENTS (setting_in C.program C.width shape.now) mesh.now G.may_stop runners.old runners.new }
+    ensures each { AllEnded take L.KEEPS_EVENTS (setting_in C.program C.width shape.now) mesh.now G.may_stop runners.old runners.new }
     ensures count { length runners.new ≡ length runners.old }
 {
     let attendance = Attendance::new();
-    run_each(rt, runners, mesh, shape, gate, &attendance, true);
+    run_each(rt, runners, mesh, shape, gate, &attendance, take, true);
     'passes: for _pass in 0..u64::MAX {
         if !all_wait(runners) {
             return;
         }
-        run_each(rt, runners, mesh, shape, gate, &attendance, false);
+        run_each(rt, runners, mesh, shape, gate, &attendance, take, false);
     }
 }
 
@@ -155,15 +158,16 @@ fn run_all<
     mesh: &NearMesh<A>,
     shape: &Shape<'_, C>,
     gate: &G,
+    take: Take,
 )
     requires some { 0 < length runners.old.items }
     requires good { IsGoodSetting (setting_in C.program C.width shape.now) }
     requires ready { All (λ p. Runs L.KEEPS_EVENTS (setting_in C.program C.width shape.now) mesh.now (padded_value p) × IsClear (padded_value p))
         runners.old.items }
-    ensures each { AllEnded L.KEEPS_EVENTS (setting_in C.program C.width shape.now) mesh.now G.may_stop runners.old.items runners.new.items }
+    ensures each { AllEnded take L.KEEPS_EVENTS (setting_in C.program C.width shape.now) mesh.now G.may_stop runners.old.items runners.new.items }
     ensures count { length runners.new.items ≡ length runners.old.items }
 {
-    run_passes(rt, runners, mesh, shape, gate);
+    run_passes(rt, runners, mesh, shape, gate, take);
 }
 
 // Whether an element is lost.
@@ -307,13 +311,19 @@ fn run_apart<
     A: Allocator + Clone + Send + Sync,
     L: Log + Send,
     G: Gate + Sync,
->(mut setup: Setup<'_, C, A, L>, lanes: Vec<Lane<'_, C, A>, A>, rt: &R, gate: &G) -> Report<A>
+>(
+    mut setup: Setup<'_, C, A, L>,
+    lanes: Vec<Lane<'_, C, A>, A>,
+    take: Take,
+    rt: &R,
+    gate: &G,
+) -> Report<A>
     requires sound { IsSoundState (arriving (setting_in C.program C.width setup.shape) (map held_of lanes.items) []) }
     requires runs { All (RunsAs (setting_in C.program C.width setup.shape)) (map fixed_of lanes.items) }
     ensures unlisted { L.KEEPS_EVENTS ≡ false → setup.entry.log.events.items ≡ [] → result.events ≡ [] }
     ensures ends { (inputs : List ℤ) (events : Events)
         → Began inputs (arriving (setting_in C.program C.width setup.entry.shape) (map held_of lanes.entry.items) []) events → result.end ≢ End.Memory
-        → EndsOn L.KEEPS_EVENTS (setting_in C.program C.width setup.entry.shape) inputs G.may_stop setup.entry.log.events.items events result }
+        → EndsOn take L.KEEPS_EVENTS (setting_in C.program C.width setup.entry.shape) inputs G.may_stop setup.entry.log.events.items events result }
     ensures shows { (inputs : List ℤ) (events : Events)
         → Began inputs (arriving (setting_in C.program C.width setup.entry.shape) (map held_of lanes.entry.items) []) events
         → ShowsOn L.KEEPS_EVENTS (C.program setup.entry.shape.code.now) (size (setting_in C.program C.width setup.entry.shape)) inputs
@@ -332,7 +342,7 @@ fn run_apart<
         mut logs,
         tokens,
     } = ready;
-    run_all(rt, &mut runners, &mesh, &setup.shape, gate);
+    run_all(rt, &mut runners, &mesh, &setup.shape, gate, take);
     let Some(halt) = why(&runners) else {
         return setup.refused();
     };
@@ -346,23 +356,23 @@ fn run_apart<
     }
 }
 
-// Lets all elements run freely, with what is reported of the run.
+// Lets all elements run freely in this order of their tokens, with what is reported of the run.
 fn run_machine<
     R: Threads + Wait + Sync,
     C: MainCode + Sync,
     A: Allocator + Clone + Send + Sync,
     L: Log + Send,
     G: Gate + Sync,
->(machine: Machine<'_, C, A, L>, rt: &R, gate: &G) -> Report<A>
+>(machine: Machine<'_, C, A, L>, take: Take, rt: &R, gate: &G) -> Report<A>
     ensures unlisted { L.KEEPS_EVENTS ≡ false → machine.entry.events ≡ [] → result.events ≡ [] }
     ensures ends { (inputs : List ℤ) (events : Events) → Began inputs machine.entry.state events → result.end ≢ End.Memory
-        → EndsOn L.KEEPS_EVENTS machine.entry.state.setting inputs G.may_stop machine.entry.events events result }
+        → EndsOn take L.KEEPS_EVENTS machine.entry.state.setting inputs G.may_stop machine.entry.events events result }
     ensures shows { (inputs : List ℤ) (events : Events) → Began inputs machine.entry.state events
         → ShowsOn L.KEEPS_EVENTS machine.entry.state.setting.program (size machine.entry.state.setting) inputs machine.entry.state.setting.steps
         G.may_stop machine.entry.events events result }
 {
     match machine.into_lanes() {
-        Ok((setup, lanes)) => run_apart(setup, lanes, rt, gate),
+        Ok((setup, lanes)) => run_apart(setup, lanes, take, rt, gate),
         Err(machine) => machine.report(Halt::Memory),
     }
 }
@@ -384,7 +394,7 @@ pub fn run<
     ensures ends { (inputs : List ℤ) → Began inputs machine.entry.state machine.entry.events → result.end ≢ End.Memory
         → EndsFreely machine.entry.state.setting inputs G.may_stop result }
 {
-    run_machine(machine, rt, gate)
+    run_taking(machine, Take::Oldest, rt, gate)
 }
 
 /// As `run`, but the report lists no events: there is a run that it shows. A long run takes no more memory than a short one.
@@ -399,5 +409,37 @@ pub fn run_quietly<
     ensures ends { (inputs : List ℤ) → Began inputs machine.entry.state machine.entry.events → result.end ≢ End.Memory → (events : Events)
         × EndsFreely machine.entry.state.setting inputs G.may_stop (with_events result events) }
 {
-    run_machine(machine.without_events(), rt, gate)
+    run_quietly_taking(machine, Take::Oldest, rt, gate)
+}
+
+/// As `run`, in the given order of the tokens. By depth element 0 holds back the requests for frames that its queue begins with: at the beginning of a
+/// block it grants some of them, as long as few other tokens are live, and then it takes its oldest other tokens. Where it has no token but such requests,
+/// and few others are not left, it makes no block, and does not ask the gate: it waits for others as one that has no token.
+pub fn run_taking<
+    R: Threads + Wait + Sync,
+    C: MainCode + Sync,
+    A: Allocator + Clone + Send + Sync,
+    G: Gate + Sync,
+>(machine: Machine<'_, C, A>, take: Take, rt: &R, gate: &G) -> Report<A>
+    ensures shows { (inputs : List ℤ) → Began inputs machine.entry.state machine.entry.events → ShowsInOrder machine.entry.state.setting.program
+        (size machine.entry.state.setting) inputs machine.entry.state.setting.steps false G.may_stop result }
+    ensures ends { (inputs : List ℤ) → Began inputs machine.entry.state machine.entry.events → result.end ≢ End.Memory
+        → EndsTaking take machine.entry.state.setting inputs G.may_stop result }
+{
+    run_machine(machine, take, rt, gate)
+}
+
+/// As `run_quietly`, in the given order of the tokens.
+pub fn run_quietly_taking<
+    R: Threads + Wait + Sync,
+    C: MainCode + Sync,
+    A: Allocator + Clone + Send + Sync,
+    G: Gate + Sync,
+>(machine: Machine<'_, C, A>, take: Take, rt: &R, gate: &G) -> Report<A>
+    ensures shows { (inputs : List ℤ) → Began inputs machine.entry.state machine.entry.events → ShowsQuietly machine.entry.state.setting.program
+        (size machine.entry.state.setting) inputs machine.entry.state.setting.steps false G.may_stop result }
+    ensures ends { (inputs : List ℤ) → Began inputs machine.entry.state machine.entry.events → result.end ≢ End.Memory → (events : Events)
+        × EndsTaking take machine.entry.state.setting inputs G.may_stop (with_events result events) }
+{
+    run_machine(machine.without_events(), take, rt, gate)
 }

@@ -6,6 +6,7 @@ mod belongings;
 mod blocks;
 mod bundle;
 mod bundling;
+mod by_depth;
 mod free;
 mod runner;
 mod spares;
@@ -14,4 +15,4 @@ mod taking;
 mod turn_length;
 mod turns;
 
-pub use free::{run, run_quietly};
+pub use free::{run, run_quietly, run_quietly_taking, run_taking};

@@ -1,6 +1,7 @@
 //! An element that runs freely, with all that it holds.
 
 use crate::bundle::{NearBundle, NearSeat};
+use element::grant_order::GrantOrder;
 use element::instructions::Instructions;
 use element::lane::Lane;
 use ordering::log::BlockLog;
@@ -25,7 +26,7 @@ pub enum Departure {
     Rested,
     /// Another element called for a stop.
     Stopped,
-    /// It has no token, and others have not begun: it waited for them in vain.
+    /// It has no token that it might take, and others have not begun: it waited for them in vain.
     Waited,
 }
 
@@ -46,6 +47,8 @@ pub struct Runner<'m, C: Instructions, A: Allocator, L: Log> {
     pub spare: Vec<NearBundle<A>, A>,
     /// The events of its turn.
     pub log: EventLog<A, L>,
+    /// In which order it grants requests for frames that it holds back.
+    pub order: GrantOrder<A>,
     /// Its blocks, where events are listed.
     pub notes: BlockLog<A>,
     /// How many tokens its commits made.

@@ -12,6 +12,7 @@ use crate::belongings::Belongings;
 use crate::bundle::{NearBundle, NearSeat, Reach};
 use crate::runner::{Departure, Runner};
 use crossbeam_utils::CachePadded;
+use element::grant_order::GrantOrder;
 use element::instructions::Instructions;
 use element::lane::Lane;
 use ordering::log::BlockLog;
@@ -74,6 +75,7 @@ fn belongings<A: Allocator + Clone, L: Log>(
     let unqueued = NearBundle::new(alloc.clone()?, reach);
     let spare = Vec::with_capacity(alloc.clone()?, elements as usize)?;
     let log = EventLog::new(alloc.clone()?);
+    let order = GrantOrder::new(alloc)?;
     let notes = BlockLog::new(alloc.clone()?)?;
     Ok(Belongings {
         sent,
@@ -81,6 +83,7 @@ fn belongings<A: Allocator + Clone, L: Log>(
         unqueued,
         spare,
         log,
+        order,
         notes,
         alloc: alloc.clone()?,
     })
@@ -100,6 +103,7 @@ fn runner<'m, C: Instructions, A: Allocator, L: Log>(
         unqueued,
         spare,
         log,
+        order,
         notes,
         alloc,
     } = belongings;
@@ -112,6 +116,7 @@ fn runner<'m, C: Instructions, A: Allocator, L: Log>(
         unqueued,
         spare,
         log,
+        order,
         notes,
         created: 0,
         blocks: 0,

@@ -5,7 +5,8 @@ use Rattle.element.specs.Holding.{Holding, held_of}
 use Rattle.schedule.specs.declared.halt.Halt.{Halt}
 use Rattle.rounds.specs.Turns.{HaltsLane, IsWhole}
 use Rattle.machine.specs.Blocks.{turn_of}
-use Rattle.machine.specs.Runners.{HasNoReason}
+use Rattle.machine.specs.ByDepth.{HasNoReason}
+use Rattle.schedule.specs.declared.take.Take.TheVariants.{Oldest}
 use Rattle.schedule.specs.Setting.{Setting}
 use Rattle.schedule.specs.State.{setting_in}
 use Rattle.machine.proofs.Committing.{has_made, made_more, no_reason, same_element}
@@ -33,10 +34,10 @@ commit-requires g c =
         has_made {C = g.row.C.Denot} {A = g.row.A.Denot} {L = g.row.L.Denot} g.L.Log.KEEPS_EVENTS
             (setting_in g.C.Instructions.program g.C.Instructions.width c.args.shape.now) c.args.mesh.now run.0 c.args.runner.now run.1
             c.requires.clear c.take_turn-halt.new.lane c.take_turn-halt.new.sent c.take_turn-halt.new.log t.0 c.len-before.result
-            (c.made.result - c.made-first.result)
-            t.1 c.take_turn-halt.ensures.sound c.take_turn-halt.ensures.fixed (c.len-before.ensures
+            (c.made.result - c.made-first.result) c.min-spent.result
+            t.1 c.take_turn-halt.ensures.fixed (c.len-before.ensures
             ∙ ap (λ (q : List Token). length q) c.queue.ensures) (ap (λ (n : ℕ). n - c.made-first.result) c.made.ensures
-            ∙ ap (λ (n : ℕ). c.take_turn-halt.new.lane.held.made - n) c.made-first.ensures) t.2 c.turn_of-turn.result
+            ∙ ap (λ (n : ℕ). c.take_turn-halt.new.lane.held.made - n) c.made-first.ensures) c.min-spent.ensures t.2 c.turn_of-turn.result
             (c.turn_of-turn.ensures.exact ∙ ap (λ (e : ℕ). turn_of s e) c.element.ensures) t.3,
       );
     }
@@ -49,9 +50,9 @@ returns-clause-keeps g c = λ start run.
     (has_made {C = g.row.C.Denot} {A = g.row.A.Denot} {L = g.row.L.Denot} g.L.Log.KEEPS_EVENTS
     (setting_in g.C.Instructions.program g.C.Instructions.width c.args.shape.now) c.args.mesh.now start c.args.runner.now run c.requires.clear
     c.take_turn-halt.new.lane c.take_turn-halt.new.sent c.take_turn-halt.new.log t.0 c.len-before.result (c.made.result - c.made-first.result)
-    t.1 c.take_turn-halt.ensures.sound c.take_turn-halt.ensures.fixed (c.len-before.ensures ∙ ap (λ (q : List Token). length q) c.queue.ensures)
-    (ap (λ (n : ℕ). n - c.made-first.result) c.made.ensures ∙ ap (λ (n : ℕ). c.take_turn-halt.new.lane.held.made - n) c.made-first.ensures) t.2
-    c.turn_of-turn.result (c.turn_of-turn.ensures.exact ∙ ap (λ (e : ℕ). turn_of s e) c.element.ensures) t.3)
+    c.min-spent.result t.1 c.take_turn-halt.ensures.fixed (c.len-before.ensures ∙ ap (λ (q : List Token). length q) c.queue.ensures)
+    (ap (λ (n : ℕ). n - c.made-first.result) c.made.ensures ∙ ap (λ (n : ℕ). c.take_turn-halt.new.lane.held.made - n) c.made-first.ensures)
+    c.min-spent.ensures t.2 c.turn_of-turn.result (c.turn_of-turn.ensures.exact ∙ ap (λ (e : ℕ). turn_of s e) c.element.ensures) t.3)
 
 pub returns-clause-halts : goal.returns-clause-halts
 returns-clause-halts g c =
@@ -74,7 +75,7 @@ returns-clause-whole g c = λ none.
     let same = ap (λ (e : ℕ). turn_of s e) (same_element {C = g.row.C.Denot} {A = g.row.A.Denot} {L = g.row.L.Denot} g.L.Log.KEEPS_EVENTS s
     c.args.mesh.now c.requires.runs.0 c.args.runner.now c.requires.runs.1 c.requires.clear c.take_turn-halt.new.lane c.take_turn-halt.new.sent t.0 t.1)
     ∙ sym (c.turn_of-turn.ensures.exact ∙ ap (λ (e : ℕ). turn_of s e) c.element.ensures) in
-    subst (λ (h : Holding). HasNoReason s h) (sym c.in_ok-commit.ensures.lane) (no_reason s turn old new same whole)
+    subst (λ (h : Holding). HasNoReason Oldest s h) (sym c.in_ok-commit.ensures.lane) (no_reason s turn old new same whole)
 
 pub returns-clause-few : goal.returns-clause-few
 returns-clause-few g c =

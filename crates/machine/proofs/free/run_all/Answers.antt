@@ -18,9 +18,9 @@ pub returns-clause-each : goal.returns-clause-each
 returns-clause-each g c =
     let old = c.args.runners.now.items in
     let is = c.deref_mut.ensures.value in
-    let each = subst (λ ps. AllEnded g.L.Log.KEEPS_EVENTS (setting_in g.C.Instructions.program g.C.Instructions.width c.args.shape.now)
+    let each = subst (λ ps. AllEnded c.args.take g.L.Log.KEEPS_EVENTS (setting_in g.C.Instructions.program g.C.Instructions.width c.args.shape.now)
     c.args.mesh.now g.G.Gate.may_stop ps c.run_passes.new.runners) is c.run_passes.ensures.each in
-    subst (λ ps. AllEnded g.L.Log.KEEPS_EVENTS (setting_in g.C.Instructions.program g.C.Instructions.width c.args.shape.now) c.args.mesh.now
+    subst (λ ps. AllEnded c.args.take g.L.Log.KEEPS_EVENTS (setting_in g.C.Instructions.program g.C.Instructions.width c.args.shape.now) c.args.mesh.now
     g.G.Gate.may_stop old ps)
     (sym (written_back c.args.runners.now.len old c.run_passes.new.runners (sym (ap length is) ∙ c.deref_mut.ensures.len) (c.run_passes.ensures.count
     ∙ ap length is))) each

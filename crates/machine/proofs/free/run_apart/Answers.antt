@@ -83,7 +83,7 @@ join_seats-joined-requires g c =
     let each = c.run_all.ensures.each in
     let count = c.run_all.ensures.count in
     subst (λ (l : List SeatView). AreAll mesh l) (sym c.in-Ok-parts_in.ensures.seats) (all_seats {C = g.row.C.Denot} {A = g.row.A.Denot}
-    {L = g.row.L.Denot} s mesh on olds ready may news each count truth.0)
+    {L = g.row.L.Denot} s mesh on olds ready c.args.take may news each count truth.0)
 
 pub report-requires-clause-sound : goal.report-requires-clause-sound
 report-requires-clause-sound g c =
@@ -105,7 +105,7 @@ report-requires-clause-sound g c =
     let setting : now ≡ s = c.list_events.ensures.setting in
     subst (λ (z : Setting). IsSoundState (record { setting = z; lanes = map held_of c.parts_in.new.lanes.items })) (sym setting)
     (subst (λ (l : List Holding). IsSoundState (record { setting = s; lanes = l })) (sym c.in-Ok-parts_in.ensures.lanes)
-    (sound_last {C = g.row.C.Denot} {A = g.row.A.Denot} {L = g.row.L.Denot} s mesh on olds ready may news each count truth.0))
+    (sound_last {C = g.row.C.Denot} {A = g.row.A.Denot} {L = g.row.L.Denot} s mesh on olds ready c.args.take may news each count truth.0))
 
 pub report-requires-clause-cell : goal.report-requires-clause-cell
 report-requires-clause-cell g c =
@@ -126,7 +126,7 @@ report-requires-clause-cell g c =
     let now : Setting = setting_in g.C.Instructions.program g.C.Instructions.width c.list_events.new.setup.shape in
     let setting : now ≡ s = c.list_events.ensures.setting in
     subst (λ (z : Setting). NamesCell z.program c.in-Some.halt) (sym setting) (cell {C = g.row.C.Denot} {A = g.row.A.Denot} {L = g.row.L.Denot} s mesh
-    on olds ready may news each count truth.0 c.in-Some.halt truth)
+    on olds ready c.args.take may news each count truth.0 c.in-Some.halt truth)
 
 pub returns-in-Ok-list_events-clause-shows : goal.returns-in-Ok-list_events-clause-shows
 returns-in-Ok-list_events-clause-shows g c = λ inputs evs began.
@@ -152,7 +152,7 @@ returns-in-Ok-list_events-clause-shows g c = λ inputs evs began.
     let opening = c.in-Ok.ready.tokens.items in
     let kept = c.args.setup.log.events.items in
     let after = c.list_events.new.setup.log.events.items in
-    shows_last {C = g.row.C.Denot} {A = g.row.A.Denot} {L = g.row.L.Denot} s mesh on olds ready may news each count truth.0 c.join_seats-joined.result
+    shows_last {C = g.row.C.Denot} {A = g.row.A.Denot} {L = g.row.L.Denot} s mesh on olds ready c.args.take may news each count truth.0 c.join_seats-joined.result
     j.mesh (j.accounts ∙ ap (λ (l : List SeatView). map (λ (x : SeatView). x.own) l) parts.seats) j.history j.commits j.bundles j.no_more
     c.in-Some.halt truth now setting (map held_of c.parts_in.new.lanes.items) parts.lanes logs parts.logs opening (e.tokens
     ∙ ap (λ (l : List Holding). tokens_in l) (sym e.lanes.0)) kept after c.report.result
@@ -200,7 +200,7 @@ returns-in-Ok-list_events-clause-ends g c = λ inputs evs began some.
     let opening = c.in-Ok.ready.tokens.items in
     let kept = c.args.setup.log.events.items in
     let after = c.list_events.new.setup.log.events.items in
-    ends_last {C = g.row.C.Denot} {A = g.row.A.Denot} {L = g.row.L.Denot} s mesh on olds ready may news each count truth.0 c.join_seats-joined.result
+    ends_last {C = g.row.C.Denot} {A = g.row.A.Denot} {L = g.row.L.Denot} s mesh on olds ready c.args.take may news each count truth.0 c.join_seats-joined.result
     j.mesh (j.accounts ∙ ap (λ (l : List SeatView). map (λ (x : SeatView). x.own) l) parts.seats) j.history j.commits j.bundles j.no_more
     c.in-Some.halt truth now setting (map held_of c.parts_in.new.lanes.items) parts.lanes logs parts.logs opening (e.tokens
     ∙ ap (λ (l : List Holding). tokens_in l) (sym e.lanes.0)) kept after c.report.result

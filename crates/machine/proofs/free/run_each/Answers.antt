@@ -22,7 +22,7 @@ returns-clause-each g c = λ i d low.
     let s : Setting = setting_in g.C.Instructions.program g.C.Instructions.width c.args.shape.now in
     let may = g.G.Gate.may_stop in
     let k = (c.for_each_mut.ensures i d low).1 in
-    subst (λ (q : CachePadded (Runner g.row.C.Denot g.row.A.Denot g.row.L.Denot)). Ended g.L.Log.KEEPS_EVENTS s c.args.mesh.now may
+    subst (λ (q : CachePadded (Runner g.row.C.Denot g.row.A.Denot g.row.L.Denot)). Ended c.args.take g.L.Log.KEEPS_EVENTS s c.args.mesh.now may
     (padded_value (get_or c.args.runners.now i d)) (padded_value q)) k.left
-    (subst (λ (q : CachePadded (Runner g.row.C.Denot g.row.A.Denot g.row.L.Denot)). Ended g.L.Log.KEEPS_EVENTS s c.args.mesh.now may (padded_value q)
+    (subst (λ (q : CachePadded (Runner g.row.C.Denot g.row.A.Denot g.row.L.Denot)). Ended c.args.take g.L.Log.KEEPS_EVENTS s c.args.mesh.now may (padded_value q)
     (padded_value k.after_call.now)) k.argument_is k.call)

@@ -38,7 +38,7 @@ returns-in-Ok-clause-ends g c =
     let raw : List Holding = map held_of c.in-Ok.lanes.items in
     let r = c.run_apart.result in
     subst (λ (k : SoFar). (inputs : List ℤ) (events : Events) → Began inputs k.state events → r.end ≢ End.Memory
-    → EndsOn g.L.Log.KEEPS_EVENTS k.state.setting inputs g.G.Gate.may_stop k.events events r) c.in-Ok.ensures.apart.0
+    → EndsOn c.args.take g.L.Log.KEEPS_EVENTS k.state.setting inputs g.G.Gate.may_stop k.events events r) c.in-Ok.ensures.apart.0
     (λ inputs events b. c.run_apart.ensures.ends inputs events
     (subst (λ (l : List Holding). Began inputs (let x : State = record { setting = s; lanes = l } in x) events) (sym (delivered_none raw)) b))
 

@@ -5,6 +5,6 @@ use Rattle.machine.proofs.free.run_passes.Given as goal
 
 abbrev pub invariant-passes : goal.invariant-passes
 invariant-passes g l = record {
-  each : AllEnded g.L.Log.KEEPS_EVENTS (setting_in g.C.Instructions.program g.C.Instructions.width l.shape) l.mesh g.G.Gate.may_stop l.fn.runners l.runners;
+  each : AllEnded l.take g.L.Log.KEEPS_EVENTS (setting_in g.C.Instructions.program g.C.Instructions.width l.shape) l.mesh g.G.Gate.may_stop l.fn.runners l.runners;
   count : length l.runners ≡ length l.fn.runners;
 }

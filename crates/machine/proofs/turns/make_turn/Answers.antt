@@ -1,7 +1,7 @@
 use Rattle.std.proofs.Common.{◌≡◌, None, sym, subst}
 use Rattle.element.specs.Holding.{Holding}
 use Rattle.schedule.specs.State.{setting_in}
-use Rattle.machine.specs.Runners.{HasNoReason}
+use Rattle.machine.specs.ByDepth.{HasNoReason}
 use Rattle.machine.proofs.Keeping.{runs_on, keeps_twice}
 use Rattle.machine.proofs.turns.make_turn.Goals as goal
 
@@ -35,5 +35,5 @@ returns-in-Err-clause-keeps g c = keeps_twice {C = g.row.C.Denot} {A = g.row.A.D
 pub look-requires-clause-whole : goal.look-requires-clause-whole
 look-requires-clause-whole g c =
     let none : c.in_ok-halt.field-0 ≡ None = cc in
-    subst (λ (h : Holding). HasNoReason (setting_in g.C.Instructions.program g.C.Instructions.width c.args.shape.now) h) (sym c.pass_on.ensures.lane)
+    subst (λ (h : Holding). HasNoReason c.args.order (setting_in g.C.Instructions.program g.C.Instructions.width c.args.shape.now) h) (sym c.pass_on.ensures.lane)
     (c.in_ok-halt.ensures.whole none)

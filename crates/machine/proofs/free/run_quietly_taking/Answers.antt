@@ -4,8 +4,8 @@ use Rattle.schedule.specs.Runs.{SoFar, Began}
 use Rattle.schedule.specs.Unlisted.{with_events}
 use Rattle.rounds.specs.Rounds.{ShowsOn}
 use Rattle.rounds.proofs.Closing.{reported_quietly}
-use Rattle.machine.specs.Ends.{EndsFreely}
-use Rattle.machine.proofs.free.run_quietly.Goals as goal
+use Rattle.machine.specs.Ends.{EndsTaking}
+use Rattle.machine.proofs.free.run_quietly_taking.Goals as goal
 
 pub returns : goal.returns
 returns g c =
@@ -21,5 +21,5 @@ returns g c =
           (c.run_machine.ensures.shows inputs m.events (subst (λ (k : SoFar). Began inputs k.state m.events) (sym same) b)));
       ends = λ inputs b some.
           let e = c.run_machine.ensures.ends inputs m.events (subst (λ (k : SoFar). Began inputs k.state m.events) (sym same) b) some in
-          (e.0, subst (λ (k : SoFar). EndsFreely k.state.setting inputs may (with_events r e.0)) same e.1);
+          (e.0, subst (λ (k : SoFar). EndsTaking c.args.take k.state.setting inputs may (with_events r e.0)) same e.1);
     }

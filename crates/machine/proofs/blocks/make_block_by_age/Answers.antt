@@ -3,7 +3,7 @@ use Rattle.schedule.specs.Setting.{Setting}
 use Rattle.schedule.proofs.Memory.{ok_then}
 use Rattle.machine.specs.Runners.{Keeps}
 use Rattle.machine.proofs.Keeping.{keeps_twice, keeps_counting}
-use Rattle.machine.proofs.blocks.make_block.Goals as goal
+use Rattle.machine.proofs.blocks.make_block_by_age.Goals as goal
 
 pub returns-clause-keeps : goal.returns-clause-keeps
 returns-clause-keeps g c =
