@@ -96,7 +96,7 @@ its_text : (order : Order) (text : List ℕ) (g : Graph) (inputs : List ℤ) (c 
     → ReportsQuietly order text g inputs c may_stop r → IsText text g
 its_text (Order.InTurn take) text g inputs c may_stop r true_of = true_of.2.2.0.is_text
 its_text (Order.InRounds take) text g inputs c may_stop r true_of = true_of.2.2.is_text
-its_text Order.Free text g inputs c may_stop r true_of = true_of.2.2.is_text
+its_text (Order.Free take) text g inputs c may_stop r true_of = true_of.2.2.is_text
 
 module _ (text : List ℕ) (p : Program) (g : Graph) (lowers : Lowers text p g) (o : RunOptions) where
   -- RUNS

@@ -80,11 +80,11 @@ token_order (Some Take.Oldest) = tokens.Oldest
 token_order (Some Take.Depth) = tokens.Depth
 token_order None = tokens.Oldest
 
--- by depth, where this mode exists and there are such runs in it
+-- by depth, where this mode exists
 abbrev pub by_depth : Option Mode → Option Order
 by_depth (Some Mode.One) = Some (Order.InTurn tokens.Depth)
 by_depth (Some Mode.Rounds) = Some (Order.InRounds tokens.Depth)
-by_depth (Some Mode.Free) = None
+by_depth (Some Mode.Free) = Some (Order.Free tokens.Depth)
 by_depth None = None
 
 -- of this mode, with this order of the tokens

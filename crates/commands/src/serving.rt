@@ -96,14 +96,14 @@ pub(crate) fn token_order(take: Option<Take>) -> TokenOrder
     }
 }
 
-/// The order by depth, where this mode exists and there are such runs in it.
+/// The order by depth, where this mode exists.
 fn by_depth(mode: Option<Mode>) -> Option<Order>
     ensures { result ≡ by_depth mode }
 {
     match mode {
         Some(Mode::One) => Some(Order::InTurn(TokenOrder::Depth)),
         Some(Mode::Rounds) => Some(Order::InRounds(TokenOrder::Depth)),
-        Some(Mode::Free) => None,
+        Some(Mode::Free) => Some(Order::Free(TokenOrder::Depth)),
         None => None,
     }
 }

@@ -32,7 +32,7 @@ pub mode_completes : (order : Order) (text : List ℕ) (g : Graph) (inputs : Lis
     → IsLargeEnough g (plan_of g).program (size_of c) c.steps d t → IsNotCut false r → Completes r
 mode_completes (Order.InTurn take) text g inputs c may_stop r h = report_completes text g inputs (size_of c) c.steps false false r h.0
 mode_completes (Order.InRounds take) text g inputs c may_stop r h = report_completes text g inputs (size_of c) c.steps false may_stop r h
-mode_completes Order.Free text g inputs c may_stop r h = report_completes text g inputs (size_of c) c.steps false may_stop r h
+mode_completes (Order.Free take) text g inputs c may_stop r h = report_completes text g inputs (size_of c) c.steps false may_stop r h
 
 -- the events of a report have no part in it
 pub quiet_completes : (order : Order) (text : List ℕ) (g : Graph) (inputs : List ℤ) (c : Config) (may_stop : Bool) (r : Report)
@@ -56,7 +56,7 @@ pub own_bounds_suffice_in : (order : Order) (text : List ℕ) (g : Graph) (input
     → HasSpace (plan_of g).program (size_of c) c.steps d → IsNotCut false r → Completes r
 own_bounds_suffice_in (Order.InTurn take) text g inputs c may_stop r h = own_bounds_suffice text g inputs (size_of c) c.steps false false r h.0
 own_bounds_suffice_in (Order.InRounds take) text g inputs c may_stop r h = own_bounds_suffice text g inputs (size_of c) c.steps false may_stop r h
-own_bounds_suffice_in Order.Free text g inputs c may_stop r h = own_bounds_suffice text g inputs (size_of c) c.steps false may_stop r h
+own_bounds_suffice_in (Order.Free take) text g inputs c may_stop r h = own_bounds_suffice text g inputs (size_of c) c.steps false may_stop r h
 
 pub own_bounds_suffice_quietly : (order : Order) (text : List ℕ) (g : Graph) (inputs : List ℤ) (c : Config) (may_stop : Bool) (r : Report)
     → ReportsQuietly order text g inputs c may_stop r → (d t : ℕ) → NeedsAtMost g inputs d t → NoneOutgrows (flow_of g) inputs
@@ -79,7 +79,7 @@ pub kept_order_suffices_in : (order : Order) (text : List ℕ) (g : Graph) (inpu
     → HasSpace (plan_of g).program (size_of c) c.steps d → IsNotCut false r → Completes r
 kept_order_suffices_in (Order.InTurn take) text g inputs c may_stop r h = kept_order_suffices text g inputs (size_of c) c.steps false false r h.0
 kept_order_suffices_in (Order.InRounds take) text g inputs c may_stop r h = kept_order_suffices text g inputs (size_of c) c.steps false may_stop r h
-kept_order_suffices_in Order.Free text g inputs c may_stop r h = kept_order_suffices text g inputs (size_of c) c.steps false may_stop r h
+kept_order_suffices_in (Order.Free take) text g inputs c may_stop r h = kept_order_suffices text g inputs (size_of c) c.steps false may_stop r h
 
 pub kept_order_suffices_quietly : (order : Order) (text : List ℕ) (g : Graph) (inputs : List ℤ) (c : Config) (may_stop : Bool) (r : Report)
     → ReportsQuietly order text g inputs c may_stop r → (d t : ℕ) → NeedsAtMost g inputs d t → SomeKeepsWithin (flow_of g) inputs
@@ -101,4 +101,4 @@ never_stopped order text g inputs c r h stop = go order h.2.2
     go : (order : Order) → ReportsTruthIn order text g inputs c false (with_events r h.2.1) → ⊥
     go (Order.InTurn take) truth = no_stop truth.0.code.program (size_of c) c.steps false truth.0.shows
     go (Order.InRounds take) truth = no_stop truth.code.program (size_of c) c.steps false truth.shows
-    go Order.Free truth = no_stop truth.code.program (size_of c) c.steps false truth.shows
+    go (Order.Free take) truth = no_stop truth.code.program (size_of c) c.steps false truth.shows

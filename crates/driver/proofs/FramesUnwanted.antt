@@ -27,7 +27,7 @@ frames_are_not_wanted text g inputs z limit by_list may_stop r h activities call
 pub frames_are_not_wanted_in_modes : FramesAreNotWantedInModes
 frames_are_not_wanted_in_modes (Order.InTurn take) text g inputs c may_stop r h = frames_are_not_wanted text g inputs (size_of c) c.steps false false r h.0
 frames_are_not_wanted_in_modes (Order.InRounds take) text g inputs c may_stop r h = frames_are_not_wanted text g inputs (size_of c) c.steps false may_stop r h
-frames_are_not_wanted_in_modes Order.Free text g inputs c may_stop r h = frames_are_not_wanted text g inputs (size_of c) c.steps false may_stop r h
+frames_are_not_wanted_in_modes (Order.Free take) text g inputs c may_stop r h = frames_are_not_wanted text g inputs (size_of c) c.steps false may_stop r h
 
 -- the events of a report have no part in it
 pub frames_are_not_wanted_quietly : FramesAreNotWantedQuietly

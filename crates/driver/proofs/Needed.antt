@@ -70,7 +70,7 @@ needs_suffice text g inputs z limit by_list may_stop r h activities frames steps
 pub needs_suffice_in_modes : NeedsSufficeInModes
 needs_suffice_in_modes (Order.InTurn take) text g inputs c may_stop r h = needs_suffice text g inputs (size_of c) c.steps false false r h.0
 needs_suffice_in_modes (Order.InRounds take) text g inputs c may_stop r h = needs_suffice text g inputs (size_of c) c.steps false may_stop r h
-needs_suffice_in_modes Order.Free text g inputs c may_stop r h = needs_suffice text g inputs (size_of c) c.steps false may_stop r h
+needs_suffice_in_modes (Order.Free take) text g inputs c may_stop r h = needs_suffice text g inputs (size_of c) c.steps false may_stop r h
 
 pub needs_suffice_quietly : NeedsSufficeQuietly
 needs_suffice_quietly order text g inputs c may_stop r h activities frames steps iterations n has uncut =

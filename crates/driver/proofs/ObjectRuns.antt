@@ -138,4 +138,4 @@ module _ (bytes : List ℕ) (inputs : List ℤ) (c : Config) (k : SoFar) (s : St
       → ((take : Take) → order ≡ Order.InTurn take → Quietly (RunsTaking take k) r) → Quietly (ShowsObjectIn order bytes inputs c may_stop) r
   shows_in_quietly (Order.InTurn take) may_stop r shows turns = shows_in_turn_quietly take may_stop r (turns take refl)
   shows_in_quietly (Order.InRounds take) may_stop r shows turns = shows_object_quietly false may_stop r shows
-  shows_in_quietly Order.Free may_stop r shows turns = shows_object_quietly false may_stop r shows
+  shows_in_quietly (Order.Free take) may_stop r shows turns = shows_object_quietly false may_stop r shows

@@ -7,7 +7,7 @@ use Rattle.driver.specs.declared.order.Order.{Order}
 taken : Order → Take
 taken (Order.InTurn take) = take
 taken (Order.InRounds take) = take
-taken Order.Free = Oldest
+taken (Order.Free take) = take
 
 -- an order in turn has one order of the tokens
 pub same_take : (order : Order) (a b : Take) → order ≡ Order.InTurn a → order ≡ Order.InTurn b → a ≡ b

@@ -170,7 +170,7 @@ pub reports_in : (order : Order) (text : List ℕ) (g : Graph) (bytes : List ℕ
 reports_in (Order.InTurn way) text g bytes inputs c may_stop r compiled shown runs =
     reports_in_turn way text g bytes inputs c r compiled shown (runs way refl)
 reports_in (Order.InRounds take) text g bytes inputs c may_stop r compiled shown runs = reports_truth text g bytes inputs c false may_stop r compiled shown
-reports_in Order.Free text g bytes inputs c may_stop r compiled shown runs = reports_truth text g bytes inputs c false may_stop r compiled shown
+reports_in (Order.Free take) text g bytes inputs c may_stop r compiled shown runs = reports_truth text g bytes inputs c false may_stop r compiled shown
 
 -- So does a report that lists no events.
 pub reports_quietly : (order : Order) (text : List ℕ) (g : Graph) (bytes : List ℕ) (inputs : List ℤ) (c : Config) (may_stop : Bool) (r : Report)
@@ -179,7 +179,7 @@ reports_quietly (Order.InTurn way) text g bytes inputs c may_stop r compiled (no
     ((shown.0).good, (shown.0).some_frame, (none, events, reports_in_turn way text g bytes inputs c (with_events r events) compiled shown.0 shown.1))
 reports_quietly (Order.InRounds take) text g bytes inputs c may_stop r compiled (none, events, shown) =
     (shown.good, shown.some_frame, (none, events, reports_truth text g bytes inputs c false may_stop (with_events r events) compiled shown))
-reports_quietly Order.Free text g bytes inputs c may_stop r compiled (none, events, shown) =
+reports_quietly (Order.Free take) text g bytes inputs c may_stop r compiled (none, events, shown) =
     (shown.good, shown.some_frame, (none, events, reports_truth text g bytes inputs c false may_stop (with_events r events) compiled shown))
 
 -- and a run of the graph's object with the moments of its events

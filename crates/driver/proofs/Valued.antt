@@ -29,7 +29,7 @@ pub modes_have : (order : Order) (text : List ℕ) (g : Graph) (inputs : List �
     → ReportsTruthIn order text g inputs c may_stop r → r.end ≡ Rest → r.deferred ≡ 0 → ReportsValues (flow_of g) inputs r
 modes_have (Order.InTurn take) text g inputs c may_stop r t = reports_values text g inputs _ _ _ _ r t.0
 modes_have (Order.InRounds take) text g inputs c may_stop r t = reports_values text g inputs _ _ _ _ r t
-modes_have Order.Free text g inputs c may_stop r t = reports_values text g inputs _ _ _ _ r t
+modes_have (Order.Free take) text g inputs c may_stop r t = reports_values text g inputs _ _ _ _ r t
 
 -- the events of a report have no part in it
 pub quiet_reports : (order : Order) (text : List ℕ) (g : Graph) (inputs : List ℤ) (c : Config) (may_stop : Bool) (r : Report)

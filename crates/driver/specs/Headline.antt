@@ -93,13 +93,13 @@ ReportsTruthInThreads text g inputs c may_stop r = ReportsOf text g inputs (size
 abbrev pub ReportsTruthIn : Order → List ℕ → Graph → List ℤ → Config → Bool → Report → Type 0
 ReportsTruthIn (Order.InTurn take) text g inputs c may_stop r = ReportsTruth take text g inputs c r
 ReportsTruthIn (Order.InRounds take) text g inputs c may_stop r = ReportsTruthInThreads text g inputs c may_stop r
-ReportsTruthIn Order.Free text g inputs c may_stop r = ReportsTruthInThreads text g inputs c may_stop r
+ReportsTruthIn (Order.Free take) text g inputs c may_stop r = ReportsTruthInThreads text g inputs c may_stop r
 
 -- only threads ask the gate
 abbrev pub stops_in : Order → Bool → Bool
 stops_in (Order.InTurn take) may_stop = false
 stops_in (Order.InRounds take) may_stop = may_stop
-stops_in Order.Free may_stop = may_stop
+stops_in (Order.Free take) may_stop = may_stop
 
 -- RUNS OF ANY LENGTH, whose report lists no events: with those of some run it says what a report that lists them says in this order.
 abbrev pub ReportsQuietly : Order → List ℕ → Graph → List ℤ → Config → Bool → Report → Type 0

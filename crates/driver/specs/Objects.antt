@@ -48,4 +48,4 @@ pub record RunsObject (bytes : List ℕ) (inputs : List ℤ) (c : Config) (Order
 abbrev pub ShowsObjectIn : Order → List ℕ → List ℤ → Config → Bool → Report → Type 0
 ShowsObjectIn (Order.InTurn take) bytes inputs c may_stop r = ShowsObject bytes inputs c false false r × RunsObject bytes inputs c (RunsByTurns take) r
 ShowsObjectIn (Order.InRounds take) bytes inputs c may_stop r = ShowsObject bytes inputs c false may_stop r
-ShowsObjectIn Order.Free bytes inputs c may_stop r = ShowsObject bytes inputs c false may_stop r
+ShowsObjectIn (Order.Free take) bytes inputs c may_stop r = ShowsObject bytes inputs c false may_stop r

@@ -63,8 +63,8 @@ pub record RunsByRounds (take : Take) (may_stop : Bool) (rounds : ℕ) (p : Prog
   pub opens : Opens p width c inputs start
   pub truth : ReportsTaking take true may_stop start rounds r
 
--- the order of a mode, with this order of their tokens where the elements take turns or make rounds
+-- the order of a mode, with this order of their tokens
 abbrev pub order_of : Mode → Take → Order
 order_of Mode.One take = Order.InTurn take
 order_of Mode.Rounds take = Order.InRounds take
-order_of Mode.Free take = Order.Free
+order_of Mode.Free take = Order.Free take

@@ -10,7 +10,7 @@ ghost use Rattle.driver.specs.declared.order.Order.{Order};
 ghost use Rattle.driver.specs.Headline.{stops_in};
 
 use crate::order::Order;
-use machine::{run, run_quietly};
+use machine::{run_quietly_taking as run_free_quietly_taking, run_taking as run_free_taking};
 use rounds::{Gate, run_quietly_taking, run_taking};
 use schedule::machine::Machine;
 use schedule::main_code::MainCode;
@@ -33,7 +33,7 @@ pub fn run_in<
     match order {
         Order::InTurn(take) => machine.run_in_turn(take),
         Order::InRounds(take) => run_taking(machine, rt, gate, take),
-        Order::Free => run(machine, rt, gate),
+        Order::Free(take) => run_free_taking(machine, take, rt, gate),
     }
 }
 
@@ -51,6 +51,6 @@ pub fn run_quietly_in<
     match order {
         Order::InTurn(take) => machine.run_quietly_in_turn(take),
         Order::InRounds(take) => run_quietly_taking(machine, rt, gate, take),
-        Order::Free => run_quietly(machine, rt, gate),
+        Order::Free(take) => run_free_quietly_taking(machine, take, rt, gate),
     }
 }

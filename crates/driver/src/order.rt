@@ -13,19 +13,19 @@ pub enum Order {
     InTurn(Take),
     /// In rounds, each element in a thread of its own. They take their tokens in this order.
     InRounds(Take),
-    /// Free, each element in a thread of its own for the whole run.
-    Free,
+    /// Free, each element in a thread of its own for the whole run. They take their tokens in this order.
+    Free(Take),
 }
 
 impl Order {
-    /// The order of this mode, with this order of their tokens where the elements take turns or make rounds. A free run takes the oldest.
+    /// The order of this mode, with this order of the tokens.
     pub fn in_mode(mode: Mode, take: Take) -> Order
         ensures { result ≡ order_of mode take }
     {
         match mode {
             Mode::One => Order::InTurn(take),
             Mode::Rounds => Order::InRounds(take),
-            Mode::Free => Order::Free,
+            Mode::Free => Order::Free(take),
         }
     }
 }

@@ -36,7 +36,7 @@ elements: --elements is 1 to 16, and not $a
 frames: --frames is 1 to 1024, and not $a
 mode: --mode is `one`, `rounds` or `free`
 take: --take is `oldest` or `depth`
-no-depth: `run`, `exec` and `trace` take tokens by depth in the modes one and rounds, and `profile` does: --take is `oldest` here
+no-depth: the runs of `ets orders` take any token, so --take is `oldest` there
 enough-elements: $a frames of all elements together suffice in every order, and $b element$B cannot have so many: an element has 1024 at most, so --elements $c has enough
 enough-nowhere: $a frames of all elements together suffice in every order, and no machine has more than 16384: fewer may do, so try --frames 1024
 enough-unknown: within --steps $a activities the meaning does not come to rest with no reader waiting, so no number of frames is known to suffice: `ets mean` says where it is then

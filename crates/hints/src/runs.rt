@@ -427,10 +427,10 @@ fn order_advice(request: &Request, readers: u64) -> Special {
     let Some(options) = options_of(request) else {
         return Special::Nothing;
     };
-    match (request, options.mode, options.take) {
-        (Request::Orders { .. }, _, _) | (_, Some(Mode::Free), _) => Special::Nothing,
-        (_, _, Some(Take::Oldest)) => Special::Depth(None),
-        (_, _, Some(Take::Depth)) if readers > 0 => Special::Unfilled,
+    match (request, options.take) {
+        (Request::Orders { .. }, _) => Special::Nothing,
+        (_, Some(Take::Oldest)) => Special::Depth(None),
+        (_, Some(Take::Depth)) if readers > 0 => Special::Unfilled,
         _ => Special::Nothing,
     }
 }

@@ -24,7 +24,7 @@ fit : (order : Order) (text : List ℕ) (g : Graph) (inputs : List ℤ) (c : Con
     → ReportsTruthIn order text g inputs c may_stop r → AreInputsOf g inputs
 fit (Order.InTurn take) text g inputs c may_stop r h = h.0.inputs_fit
 fit (Order.InRounds take) text g inputs c may_stop r h = h.inputs_fit
-fit Order.Free text g inputs c may_stop r h = h.inputs_fit
+fit (Order.Free take) text g inputs c may_stop r h = h.inputs_fit
 
 pub quiet_fit : (order : Order) (text : List ℕ) (g : Graph) (inputs : List ℤ) (c : Config) (may_stop : Bool) (r : Report)
     → ReportsQuietly order text g inputs c may_stop r → AreInputsOf g inputs

@@ -53,7 +53,7 @@ module _ (text : List ℕ) (p : Program) (g : Graph) (h : Lowers text p g) (inpu
       → r.deferred ≡ 0 → Shown r
   mode_shown (Order.InTurn take) c may_stop r t = report_shown _ _ _ _ r t.0
   mode_shown (Order.InRounds take) c may_stop r t = report_shown _ _ _ _ r t
-  mode_shown Order.Free c may_stop r t = report_shown _ _ _ _ r t
+  mode_shown (Order.Free take) c may_stop r t = report_shown _ _ _ _ r t
 
 -- A report of the program's graph that was not cut off, by whatever means it was made
 pub quiet_arrives : ProgramsComeToRest → (text : List ℕ) (p : Program) (g : Graph) → Lowers text p g → (order : Order) (inputs : List ℤ) (c : Config)

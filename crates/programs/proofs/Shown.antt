@@ -83,7 +83,7 @@ pub mode_shows : (text : List ℕ) (p : Program) (g : Graph) → Lowers text p g
     → ReportsTruthIn order (text_of g) g inputs c may_stop r → r.end ≡ Rest → r.deferred ≡ 0 → ShowsProgram p inputs r
 mode_shows text p g h (Order.InTurn take) inputs c may_stop r t = report_shows text p g h inputs _ _ _ _ r t.0
 mode_shows text p g h (Order.InRounds take) inputs c may_stop r t = report_shows text p g h inputs _ _ _ _ r t
-mode_shows text p g h Order.Free inputs c may_stop r t = report_shows text p g h inputs _ _ _ _ r t
+mode_shows text p g h (Order.Free take) inputs c may_stop r t = report_shows text p g h inputs _ _ _ _ r t
 
 -- the events of a report have no part in it
 pub quiet_shows : (text : List ℕ) (p : Program) (g : Graph) → Lowers text p g

@@ -13,6 +13,7 @@ use oracle::MeanReport;
 use rounds::Open;
 use schedule::config::Config;
 use schedule::report::Report;
+use schedule::take::Take;
 use semantics::report::End;
 use std::alloc::{AllocError, Global};
 use std::io::{self, Write};
@@ -124,7 +125,7 @@ impl<'a> Trials<'a> {
             rt,
             gate: &Open,
         };
-        let run = run_text(resources, text, inputs, config, Order::Free).map(
+        let run = run_text(resources, text, inputs, config, Order::Free(Take::Oldest)).map(
             |emulated| emulated.report,
         );
         self.judge(runs, config, &run) != Verdict::Differs

@@ -5,6 +5,7 @@ use driver::order::Order;
 use driver::resources::Resources;
 use rounds::Gate;
 use schedule::config::Config;
+use schedule::take::Take;
 use semantics::report::End;
 use std::alloc::Global;
 use std::io::Write;
@@ -74,9 +75,14 @@ fn two(rt: HostRuntime) -> Result<(), Fail> {
         rt: &rt,
         gate: &gate,
     };
-    let emulated = run_text(resources, &text, [7].as_slice(), config, Order::Free).map_err(
-        |_| "a report",
-    )?;
+    let emulated = run_text(
+        resources,
+        &text,
+        [7].as_slice(),
+        config,
+        Order::Free(Take::Oldest),
+    )
+    .map_err(|_| "a report")?;
     assert_eq!(rt; emulated.report.end, End::Rest);
     assert!(rt; gate.saw[0].load(Ordering::SeqCst) && gate.saw[1].load(Ordering::SeqCst));
     Ok(())

@@ -27,12 +27,13 @@ const SQUARE: &[u8] = b"array A[4];\nfn main(n) -> 2 { A[n] := n * n, A[n] + 1 }
 /// The name `m` stands for nothing.
 const NAMELESS: &[u8] = b"fn main(n) {\n    n + m\n}\n";
 
-const ORDERS: [Order; 5] = [
+const ORDERS: [Order; 6] = [
     Order::InTurn(Take::Oldest),
     Order::InTurn(Take::Depth),
     Order::InRounds(Take::Oldest),
     Order::InRounds(Take::Depth),
-    Order::Free,
+    Order::Free(Take::Oldest),
+    Order::Free(Take::Depth),
 ];
 
 const CONFIG: Config = Config {

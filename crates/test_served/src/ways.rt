@@ -23,7 +23,12 @@ const ROUNDS_BY_DEPTH: Order = Order {
     take: "depth",
 };
 
-const ORDERS: [Order; 5] = [
+const FREE_BY_DEPTH: Order = Order {
+    mode: "free",
+    take: "depth",
+};
+
+const ORDERS: [Order; 6] = [
     Order {
         mode: "one",
         take: "oldest",
@@ -38,6 +43,7 @@ const ORDERS: [Order; 5] = [
         mode: "free",
         take: "oldest",
     },
+    FREE_BY_DEPTH,
 ];
 
 const ELEMENTS: [&str; 5] = ["1", "2", "4", "7", "16"];
@@ -54,7 +60,7 @@ impl Orders {
     fn list(self) -> &'static [Order] {
         match self {
             Orders::All => &ORDERS,
-            Orders::ByDepth => &[BY_DEPTH, ROUNDS_BY_DEPTH],
+            Orders::ByDepth => &[BY_DEPTH, ROUNDS_BY_DEPTH, FREE_BY_DEPTH],
         }
     }
 

@@ -28,5 +28,5 @@ returns-in-InRounds-clause-shows g c = λ inputs began.
 pub returns-in-Free-clause-shows : goal.returns-in-Free-clause-shows
 returns-in-Free-clause-shows g c = λ inputs began.
     let z : Setting = c.args.machine.state.setting in
-    subst (λ (m : Order). ShowsInOrder z.program (size z) inputs z.steps false (stops_in m g.G.Gate.may_stop) c.run.result) (sym c.in-Free.is)
-    (c.run.ensures.shows inputs began)
+    subst (λ (m : Order). ShowsInOrder z.program (size z) inputs z.steps false (stops_in m g.G.Gate.may_stop) c.run_taking-in-Free.result) (sym c.in-Free.is)
+    (c.run_taking-in-Free.ensures.shows inputs began)
