@@ -24,22 +24,25 @@ function info(n) {
   let a = 0, b = list.length;
   while (a < b) { const q = (a + b) >> 1; if (list[q] < n) a = q + 1; else b = q; }
   const from = Math.max(0, a - 30), to = Math.min(list.length, from + 60);
-  fill(box, close, el('h2', {}, c ? c.b + '.' + c.k + ' ' + c.name + ' ' + c.op : picked.of.name), c ? [HELP[c.name] ? el('div', {class: 'none'}, HELP[c.name]) : '',
+  fill(box, close, el('h2', {}, c ? c.b + '.' + c.k + ' ' + c.name + ' ' + c.op : picked.of.name),
+    c ? [HELP[c.name] ? el('div', {class: 'none'}, HELP[c.name]) : '',
     el('div', {}, 'goes to: ', c.d.filter(d => d).map(d => name(d.ip) + ' (' + at(d.ip) + '), ' + SIDE[d.port]).join('; ') ||
         'no instruction of its block', c.slot === null ? '' : '; slot ' + c.slot)] : '',
     el('div', {style: 'margin-top:.3rem'}, many(list.length, 'event'), list.length ? ': ' : '.', from ? '\u2026 ' : '',
         list.slice(from, to).map(x => evButton(x, no(x) + ' \u00b7 ' + (c ? 'frame ' + TO[TAKES[x]] : verb(x)))), to < list.length ? ' \u2026' : ''));
 }
-const verb = n => { const t = TAKES[n], type = TYPE[t]; return type === INSTR ? name(IP[t]) : type === READ ? 'read' : type === WRITE ? 'write' : type === BACK ?
-    'freed' : type === HOST ? 'host' : 'request'; };
+const VERBS = {[READ]: 'read', [WRITE]: 'write', [BACK]: 'freed', [HOST]: 'host', [QUEUED]: 'request'};
+const verb = n => ipOf(n) >= 0 ? name(ipOf(n)) : VERBS[TYPE[TAKES[n]]];
 
 // ---- finding: the next and the last event of something. Something has a name, and a test of an event or a text that stands in its line.
 const ofInstruction = ip => ({name: name(ip) + ' (' + at(ip) + ')', has: n => ipOf(n) === ip});
 const ofFunction = b => ({name: bname(BLOCKS[b]), has: n => ipOf(n) >= 0 && CODE[ipOf(n)] && CODE[ipOf(n)].b === b});
 const isAtCell = n => { const type = TYPE[TAKES[n]]; return type === READ || type === WRITE; };
 const ofCell = x => ({name: 'cell ' + cell(x), has: n => isAtCell(n) && TO[TAKES[n]] === x});
-const ofFrame = f => ({name: 'frame ' + f, has: n => { const t = TAKES[n], c = K + n; return ((TYPE[t] === INSTR || TYPE[t] === BACK) && TO[t] === f) ||
-    ((TAG[c] === OUT || TAG[c] === HANDED) && PLACE[c] === f); }});
+const ofFrame = f => ({name: 'frame ' + f, has: n => {
+  const t = TAKES[n], c = K + n;
+  return ((TYPE[t] === INSTR || TYPE[t] === BACK) && TO[t] === f) || ((TAG[c] === OUT || TAG[c] === HANDED) && PLACE[c] === f);
+}});
 function something(w) {  // what these words name
   const m = /^(.*?)(?:\[| |\.)(\d+)\]?$/.exec(w), k = m && +m[2], array = m && ARRAYS.find(a => a.name === m[1] || a.name === 'array ' + m[1]);
   const block = BLOCKS.find(b => b.name === w);
@@ -136,9 +139,9 @@ function lists(n, s, pool, f) {
         el('div', {class: 'cells', style: 'margin-bottom:.4rem'}, show.map(x => {
       const v = s.cells.get(x), waits = v === undefined ? [] : readersOf(v), held = v === undefined || waits.length ? '' : changeOf(v)[2];
       const conts = waits.slice(-5).map(q => word(changeOf(q)[2]));
-      return el('button', {on: () => choose({of: ofCell(x)}), class: 'cell' + (held ? ' full' : waits.length ? ' readers' : '') + (x === x0 ? ' hit' : ''),
-          title: cell(x) + ': ' + (held || (waits.length ? many(waits.length, 'read') + ' waiting: ' + conts.join('; ') : 'empty'))}, el('small', {}, x - a.base),
-          held || (waits.length ? many(waits.length, 'read waits', 'reads wait') : ''));
+      const says = held || (waits.length ? many(waits.length, 'read') + ' waiting: ' + conts.join('; ') : 'empty');
+      return el('button', {on: () => choose({of: ofCell(x)}), class: 'cell' + (held ? ' full' : waits.length ? ' readers' : '') +
+          (x === x0 ? ' hit' : ''), title: cell(x) + ': ' + says}, el('small', {}, x - a.base), held || (waits.length ? many(waits.length, 'read waits', 'reads wait') : ''));
     }), show.length ? '' : el('span', {class: 'none'}, 'all empty'))];
   }));
   // requests
