@@ -179,7 +179,15 @@ fill($('legend'), [['fired', 'fired'], ['waited', 'waits in a slot'], ['memory',
     el('span', {}, 'above: tokens on their way, at most ' + TOP.toLocaleString('en')));
 const cv = $('cv'), HC = 34, LANE = Math.max(5, Math.min(14, Math.floor(72 / E))), YL = HC + 4, YZ = YL + LANE * E + 26, ONE = E === 1 || E > 6,
     ZL = E === 1 ? 26 : ONE ? 38 : 20, HT = YZ + ZL * (ONE ? 1 : E) + 2, PADL = E > 1 ? 34 : 4;
-let tlw = 0, back = null, backKey = '', win = {a: 0, w: 1};
+let tlw = 0, back = null, backKey = '', win = {list: [], w: 1};
+function around(n, count) {  // so many events around this one, without those that are left out
+  const list = [], isShown = m => m === n || !isQuiet(m);
+  let first = Math.max(n, 0), next = first;
+  while (first > 0 && list.length < count >> 1) if (isShown(--first)) list.unshift(first);
+  for (; next < N && list.length < count; next++) if (isShown(next)) list.push(next);
+  while (first > 0 && list.length < count) if (isShown(--first)) list.unshift(first);
+  return list;
+}
 function timeline(n) {
   const dpr = devicePixelRatio || 1, W = tlw, css = getComputedStyle(document.documentElement), seen = {},
     col = k => seen[k] || (seen[k] = css.getPropertyValue('--' + k).trim());
@@ -212,18 +220,18 @@ function timeline(n) {
   }
   const c = cv.getContext('2d');
   c.setTransform(1, 0, 0, 1, 0, 0); c.clearRect(0, 0, cv.width, cv.height); c.drawImage(back, 0, 0); c.scale(dpr, dpr);
-  const count = Math.max(3, Math.floor(IW / 58)), bw = IW / count, a = Math.max(0, Math.min(N - count, n - (count >> 1)));
-  win = {a: a, w: bw, n: count};
-  c.strokeStyle = col('ink'); c.lineWidth = 1.5; const xa = PADL + a * IW / (N || 1), xb = PADL + Math.min(N, a + count) * IW / (N || 1);
+  const count = Math.max(3, Math.floor(IW / 58)), bw = IW / count, list = around(n, count), a = list[0] || 0, z = N ? list[list.length - 1] + 1 : 0;
+  win = {list: list, w: bw};
+  c.strokeStyle = col('ink'); c.lineWidth = 1.5; const xa = PADL + a * IW / (N || 1), xb = PADL + z * IW / (N || 1);
   c.globalAlpha = .35; c.beginPath(); c.moveTo(xa, YL + LANE * E); c.lineTo(PADL, YZ - 17); c.moveTo(xb, YL + LANE * E);
-      c.lineTo(PADL + Math.min(N, count) * bw, YZ - 17); c.stroke(); c.globalAlpha = 1;
+      c.lineTo(PADL + list.length * bw, YZ - 17); c.stroke(); c.globalAlpha = 1;
   const px = Math.min(PADL + IW - 1, X(n)); c.fillStyle = col('defer'); c.fillRect(px - 1, 0, 2, YL + LANE * E);
   c.beginPath(); c.moveTo(px - 5, 0); c.lineTo(px + 5, 0); c.lineTo(px, 7); c.fill();
   c.font = '11px ui-monospace,Menlo,Consolas,"Liberation Mono",monospace'; c.textAlign = 'center';
   for (let e = 0; e < (ONE ? 1 : E); e++) { c.fillStyle = col('soft'); c.fillRect(PADL, YZ + e * ZL, IW, ZL - 1);
       if (!ONE) { c.fillStyle = col('dim'); c.textAlign = 'left'; c.fillText('el ' + e, 2, YZ + e * ZL + ZL / 2 + 4); c.textAlign = 'center'; } }
-  for (let m = a; m < Math.min(N, a + count); m++) {
-    const x = PADL + (m - a) * bw, y = YZ + (ONE ? 0 : ELEMENT[m] * ZL), mid = y + (E > 6 ? 12 : ZL / 2);
+  list.forEach((m, i) => {
+    const x = PADL + i * bw, y = YZ + (ONE ? 0 : ELEMENT[m] * ZL), mid = y + (E > 6 ? 12 : ZL / 2);
     c.fillStyle = col(KINDS[KIND[m]]); c.fillRect(x + 1, y, bw - 2, ZL - 1);
     c.fillStyle = col('card'); c.fillRect(x + 2.5, y + 3.5, bw - 5, ZL - 6);
     c.fillStyle = m <= n ? col('ink') : col('faint');
@@ -232,13 +240,13 @@ function timeline(n) {
     if (E > 6) c.fillText('el ' + ELEMENT[m], x + bw / 2, mid + 18);
     if (m === n) { c.strokeStyle = col('defer'); c.lineWidth = 2; c.strokeRect(x + 1, y + 1, bw - 2, ZL - 3); }
     if (m === n || no(m) % 5 === 0) { c.fillStyle = m === n ? col('defer') : col('dim'); c.fillText(String(no(m)), x + bw / 2, YZ - 5); }
-  }
+  });
   cv.setAttribute('aria-valuemin', no(-1)); cv.setAttribute('aria-valuemax', no(N - 1)); cv.setAttribute('aria-valuenow', no(n));
       cv.setAttribute('aria-valuetext', n < 0 ? 'start' : 'event ' + no(n) + ': ' + doing(n));
 }
 function jump(ev) {
   const r = cv.getBoundingClientRect(), x = ev.clientX - r.left - PADL, y = ev.clientY - r.top, IW = r.width - PADL - 4;
-  go(y >= YZ - 14 ? win.a + Math.floor(x / win.w) : Math.floor(x * N / IW));
+  go(y >= YZ - 14 ? win.list[Math.max(0, Math.min(win.list.length - 1, Math.floor(x / win.w)))] : Math.floor(x * N / IW));
 }
 let drag = false;
 cv.addEventListener('pointerdown', ev => { drag = true; pause(); jump(ev); });
