@@ -24,22 +24,25 @@ function info(n) {
   let a = 0, b = list.length;
   while (a < b) { const q = (a + b) >> 1; if (list[q] < n) a = q + 1; else b = q; }
   const from = Math.max(0, a - 30), to = Math.min(list.length, from + 60);
-  fill(box, close, el('h2', {}, c ? c.b + '.' + c.k + ' ' + c.name + ' ' + c.op : picked.of.name), c ? [HELP[c.name] ? el('div', {class: 'none'}, HELP[c.name]) : '',
+  fill(box, close, el('h2', {}, c ? c.b + '.' + c.k + ' ' + c.name + ' ' + c.op : picked.of.name),
+    c ? [HELP[c.name] ? el('div', {class: 'none'}, HELP[c.name]) : '',
     el('div', {}, 'goes to: ', c.d.filter(d => d).map(d => name(d.ip) + ' (' + at(d.ip) + '), ' + SIDE[d.port]).join('; ') ||
         'no instruction of its block', c.slot === null ? '' : '; slot ' + c.slot)] : '',
     el('div', {style: 'margin-top:.3rem'}, many(list.length, 'event'), list.length ? ': ' : '.', from ? '\u2026 ' : '',
         list.slice(from, to).map(x => evButton(x, no(x) + ' \u00b7 ' + (c ? 'frame ' + TO[TAKES[x]] : verb(x)))), to < list.length ? ' \u2026' : ''));
 }
-const verb = n => { const t = TAKES[n], type = TYPE[t]; return type === INSTR ? name(IP[t]) : type === READ ? 'read' : type === WRITE ? 'write' : type === BACK ?
-    'freed' : type === HOST ? 'host' : 'request'; };
+const VERBS = {[READ]: 'read', [WRITE]: 'write', [BACK]: 'freed', [HOST]: 'host', [QUEUED]: 'request'};
+const verb = n => ipOf(n) >= 0 ? name(ipOf(n)) : VERBS[TYPE[TAKES[n]]];
 
 // ---- finding: the next and the last event of something. Something has a name, and a test of an event or a text that stands in its line.
 const ofInstruction = ip => ({name: name(ip) + ' (' + at(ip) + ')', has: n => ipOf(n) === ip});
 const ofFunction = b => ({name: bname(BLOCKS[b]), has: n => ipOf(n) >= 0 && CODE[ipOf(n)] && CODE[ipOf(n)].b === b});
 const isAtCell = n => { const type = TYPE[TAKES[n]]; return type === READ || type === WRITE; };
 const ofCell = x => ({name: 'cell ' + cell(x), has: n => isAtCell(n) && TO[TAKES[n]] === x});
-const ofFrame = f => ({name: 'frame ' + f, has: n => { const t = TAKES[n], c = K + n; return ((TYPE[t] === INSTR || TYPE[t] === BACK) && TO[t] === f) ||
-    ((TAG[c] === OUT || TAG[c] === HANDED) && PLACE[c] === f); }});
+const ofFrame = f => ({name: 'frame ' + f, has: n => {
+  const t = TAKES[n], c = K + n;
+  return ((TYPE[t] === INSTR || TYPE[t] === BACK) && TO[t] === f) || ((TAG[c] === OUT || TAG[c] === HANDED) && PLACE[c] === f);
+}});
 function something(w) {  // what these words name
   const m = /^(.*?)(?:\[| |\.)(\d+)\]?$/.exec(w), k = m && +m[2], array = m && ARRAYS.find(a => a.name === m[1] || a.name === 'array ' + m[1]);
   const block = BLOCKS.find(b => b.name === w);
@@ -136,9 +139,9 @@ function lists(n, s, pool, f) {
         el('div', {class: 'cells', style: 'margin-bottom:.4rem'}, show.map(x => {
       const v = s.cells.get(x), waits = v === undefined ? [] : readersOf(v), held = v === undefined || waits.length ? '' : changeOf(v)[2];
       const conts = waits.slice(-5).map(q => word(changeOf(q)[2]));
-      return el('button', {on: () => choose({of: ofCell(x)}), class: 'cell' + (held ? ' full' : waits.length ? ' readers' : '') + (x === x0 ? ' hit' : ''),
-          title: cell(x) + ': ' + (held || (waits.length ? many(waits.length, 'read') + ' waiting: ' + conts.join('; ') : 'empty'))}, el('small', {}, x - a.base),
-          held || (waits.length ? many(waits.length, 'read waits', 'reads wait') : ''));
+      const says = held || (waits.length ? many(waits.length, 'read') + ' waiting: ' + conts.join('; ') : 'empty');
+      return el('button', {on: () => choose({of: ofCell(x)}), class: 'cell' + (held ? ' full' : waits.length ? ' readers' : '') +
+          (x === x0 ? ' hit' : ''), title: cell(x) + ': ' + says}, el('small', {}, x - a.base), held || (waits.length ? many(waits.length, 'read waits', 'reads wait') : ''));
     }), show.length ? '' : el('span', {class: 'none'}, 'all empty'))];
   }));
   // requests
@@ -176,7 +179,15 @@ fill($('legend'), [['fired', 'fired'], ['waited', 'waits in a slot'], ['memory',
     el('span', {}, 'above: tokens on their way, at most ' + TOP.toLocaleString('en')));
 const cv = $('cv'), HC = 34, LANE = Math.max(5, Math.min(14, Math.floor(72 / E))), YL = HC + 4, YZ = YL + LANE * E + 26, ONE = E === 1 || E > 6,
     ZL = E === 1 ? 26 : ONE ? 38 : 20, HT = YZ + ZL * (ONE ? 1 : E) + 2, PADL = E > 1 ? 34 : 4;
-let tlw = 0, back = null, backKey = '', win = {a: 0, w: 1};
+let tlw = 0, back = null, backKey = '', win = {list: [], w: 1};
+function around(n, count) {  // so many events around this one, without those that are left out
+  const list = [], isShown = m => m === n || !isQuiet(m);
+  let first = Math.max(n, 0), next = first;
+  while (first > 0 && list.length < count >> 1) if (isShown(--first)) list.unshift(first);
+  for (; next < N && list.length < count; next++) if (isShown(next)) list.push(next);
+  while (first > 0 && list.length < count) if (isShown(--first)) list.unshift(first);
+  return list;
+}
 function timeline(n) {
   const dpr = devicePixelRatio || 1, W = tlw, css = getComputedStyle(document.documentElement), seen = {},
     col = k => seen[k] || (seen[k] = css.getPropertyValue('--' + k).trim());
@@ -209,18 +220,18 @@ function timeline(n) {
   }
   const c = cv.getContext('2d');
   c.setTransform(1, 0, 0, 1, 0, 0); c.clearRect(0, 0, cv.width, cv.height); c.drawImage(back, 0, 0); c.scale(dpr, dpr);
-  const count = Math.max(3, Math.floor(IW / 58)), bw = IW / count, a = Math.max(0, Math.min(N - count, n - (count >> 1)));
-  win = {a: a, w: bw, n: count};
-  c.strokeStyle = col('ink'); c.lineWidth = 1.5; const xa = PADL + a * IW / (N || 1), xb = PADL + Math.min(N, a + count) * IW / (N || 1);
+  const count = Math.max(3, Math.floor(IW / 58)), bw = IW / count, list = around(n, count), a = list[0] || 0, z = N ? list[list.length - 1] + 1 : 0;
+  win = {list: list, w: bw};
+  c.strokeStyle = col('ink'); c.lineWidth = 1.5; const xa = PADL + a * IW / (N || 1), xb = PADL + z * IW / (N || 1);
   c.globalAlpha = .35; c.beginPath(); c.moveTo(xa, YL + LANE * E); c.lineTo(PADL, YZ - 17); c.moveTo(xb, YL + LANE * E);
-      c.lineTo(PADL + Math.min(N, count) * bw, YZ - 17); c.stroke(); c.globalAlpha = 1;
+      c.lineTo(PADL + list.length * bw, YZ - 17); c.stroke(); c.globalAlpha = 1;
   const px = Math.min(PADL + IW - 1, X(n)); c.fillStyle = col('defer'); c.fillRect(px - 1, 0, 2, YL + LANE * E);
   c.beginPath(); c.moveTo(px - 5, 0); c.lineTo(px + 5, 0); c.lineTo(px, 7); c.fill();
   c.font = '11px ui-monospace,Menlo,Consolas,"Liberation Mono",monospace'; c.textAlign = 'center';
   for (let e = 0; e < (ONE ? 1 : E); e++) { c.fillStyle = col('soft'); c.fillRect(PADL, YZ + e * ZL, IW, ZL - 1);
       if (!ONE) { c.fillStyle = col('dim'); c.textAlign = 'left'; c.fillText('el ' + e, 2, YZ + e * ZL + ZL / 2 + 4); c.textAlign = 'center'; } }
-  for (let m = a; m < Math.min(N, a + count); m++) {
-    const x = PADL + (m - a) * bw, y = YZ + (ONE ? 0 : ELEMENT[m] * ZL), mid = y + (E > 6 ? 12 : ZL / 2);
+  list.forEach((m, i) => {
+    const x = PADL + i * bw, y = YZ + (ONE ? 0 : ELEMENT[m] * ZL), mid = y + (E > 6 ? 12 : ZL / 2);
     c.fillStyle = col(KINDS[KIND[m]]); c.fillRect(x + 1, y, bw - 2, ZL - 1);
     c.fillStyle = col('card'); c.fillRect(x + 2.5, y + 3.5, bw - 5, ZL - 6);
     c.fillStyle = m <= n ? col('ink') : col('faint');
@@ -229,13 +240,13 @@ function timeline(n) {
     if (E > 6) c.fillText('el ' + ELEMENT[m], x + bw / 2, mid + 18);
     if (m === n) { c.strokeStyle = col('defer'); c.lineWidth = 2; c.strokeRect(x + 1, y + 1, bw - 2, ZL - 3); }
     if (m === n || no(m) % 5 === 0) { c.fillStyle = m === n ? col('defer') : col('dim'); c.fillText(String(no(m)), x + bw / 2, YZ - 5); }
-  }
+  });
   cv.setAttribute('aria-valuemin', no(-1)); cv.setAttribute('aria-valuemax', no(N - 1)); cv.setAttribute('aria-valuenow', no(n));
       cv.setAttribute('aria-valuetext', n < 0 ? 'start' : 'event ' + no(n) + ': ' + doing(n));
 }
 function jump(ev) {
   const r = cv.getBoundingClientRect(), x = ev.clientX - r.left - PADL, y = ev.clientY - r.top, IW = r.width - PADL - 4;
-  go(y >= YZ - 14 ? win.a + Math.floor(x / win.w) : Math.floor(x * N / IW));
+  go(y >= YZ - 14 ? win.list[Math.max(0, Math.min(win.list.length - 1, Math.floor(x / win.w)))] : Math.floor(x * N / IW));
 }
 let drag = false;
 cv.addEventListener('pointerdown', ev => { drag = true; pause(); jump(ev); });

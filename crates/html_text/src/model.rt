@@ -30,7 +30,8 @@ let MAIN = 0, CELLS = 0;
 for (const line of $('listing').textContent.split('\n')) {
   const w = line.trim().split(/\s+/);
   if (w[0] === 'ets') MAIN = +w[3];
-  else if (w[0] === 'block') BLOCKS.push({n: BLOCKS.length, first: CODE.length, ins: +w[3], outs: +w[5], slots: +w[7], code: [], name: '', view: [], lays: {}});
+  else if (w[0] === 'block') BLOCKS.push({n: BLOCKS.length, first: CODE.length, ins: +w[3], outs: +w[5], slots: +w[7], code: [], name: '',
+      view: [], lays: {}});
   else if (w[0] === 'array') ARRAYS.push({n: ARRAYS.length, len: +w[2], name: 'array ' + w[1]});
   else if (/^\d+$/.test(w[0]) && BLOCKS.length) {
     const b = BLOCKS[BLOCKS.length - 1], ip = CODE.length;
@@ -77,10 +78,12 @@ const ELEMENT = new Uint16Array(N), TAKES = new Int32Array(N), KIND = new Uint8A
 let TYPE = new Uint8Array(START + 2 * N + 64), TO = new Int32Array(TYPE.length), IP = new Int32Array(TYPE.length), MADE = new Int32Array(TYPE.length),
     TAKEN = new Int32Array(TYPE.length);
 const letter = s => s.charCodeAt(0), INSTR = letter('i'), READ = letter('r'), WRITE = letter('w'), BACK = letter('b'), HOST = letter('h');
-const SLOT = letter('s'), EMPTIED = letter('e'), FILLED = letter('v'), READER = letter('+'), OUT = letter('o'), FREED = letter('f'), QUEUED = letter('q'),
-    HANDED = letter('h'), OUTPUT = letter('p'), CREDITS = letter('c'), ASKS = letter('w'), NONE = -2;
+const SLOT = letter('s'), EMPTIED = letter('e'), FILLED = letter('v'), READER = letter('+'), OUT = letter('o'), FREED = letter('f'),
+    QUEUED = letter('q'), HANDED = letter('h'), OUTPUT = letter('p'), CREDITS = letter('c'), ASKS = letter('w'), NONE = -2;
 const KINDS = ['fired', 'waited', 'memory', 'defer', 'manager', 'host'], KIND_OF = new Uint8Array(65536);
-['fi', 'wa', 'an st se', 'de qu', 'gi fr ha', 'ar'].forEach((list, k) => { for (const w of list.split(' ')) KIND_OF[letter(w) * 256 + w.charCodeAt(1)] = k; });
+['fi', 'wa', 'an st se', 'de qu', 'gi fr ha', 'ar'].forEach((list, k) => {  // by the first two letters of the deed
+  for (const w of list.split(' ')) KIND_OF[letter(w) * 256 + w.charCodeAt(1)] = k;
+});
 function pass(c) { let i = here; while (BYTES[i] !== c && i < BYTES.length) i++; here = i + 1; }
 function number() { let x = 0, i = here, c = BYTES[i]; while (c > 47 && c < 58) { x = 10 * x + c - 48; c = BYTES[++i]; } here = i; return x; }
 function readChange(k) {
@@ -303,7 +306,8 @@ function sentence(n) {
       break;
     }
     case 'r': out.push(': cell ', b(cell(t[1])), ' is read');
-      if (c) out.push('; it is empty, so the read waits there' + (was >= 0 ? ', behind ' + many(readersOf(was).length, 'other') : ''), '; the answer is for ' + word(t[2]));
+      if (c) out.push('; it is empty, so the read waits there' + (was >= 0 ? ', behind ' + many(readersOf(was).length, 'other') : ''),
+          '; the answer is for ' + word(t[2]));
       else out.push('; it is full'); break;
     case 'w': { const waited = readersOf(was).length; out.push(': ', b(t[2]), ' is written to cell ', b(cell(t[1])));
       out.push(waited ? '; ' + many(waited, 'read that waited is', 'reads that waited are') + ' answered' : '; no read waited'); break; }

@@ -17,7 +17,8 @@ function leads(c) {  // where its tokens go, through what is left out
 }
 const reach = (ip, port) => CODE[ip] && isLeft(CODE[ip]) ? leads(CODE[ip]) : [{ip: ip, port: port}];
 function layout(b) {
-  const code = b.view, n = code.length, index = new Map(code.map((c, i) => [c.ip, i])), L = new Array(n).fill(0), fed = new Array(n).fill(false), edges = [];
+  const code = b.view, n = code.length, index = new Map(code.map((c, i) => [c.ip, i]));
+  const L = new Array(n).fill(0), fed = new Array(n).fill(false), edges = [];
   for (let i = 0; i < n; i++) {
     if (!fed[i] && i > b.ins) L[i] = Math.max(L[i - 1], 1);  // a landing place stands beside the one before it
     for (const d of leads(code[i])) { const j = index.get(d.ip); if (j > i) { fed[j] = true; L[j] = Math.max(L[j], L[i] + 1);
@@ -128,10 +129,11 @@ function draw(list) {
         sv('text', {class: 'btitle', x: b.x + 12, y: b.y + 19}, bname(b)));
     const fars = [];
     for (const e of l.edges) {
-      const src = b.view[e.a], dst = b.view[e.z], twin = l.edges.find(z => z.a === e.a && z !== e), A = place.get(src.ip), Z = place.get(dst.ip), pts = [];
+      const src = b.view[e.a], dst = b.view[e.z], twin = l.edges.find(z => z.a === e.a && z !== e);
+      const A = place.get(src.ip), Z = place.get(dst.ip), pts = [];
       let out = 0;
-      if (twin) { const mine = e.path[1].x, o = twin.path[1].x; out = (mine < o || (mine === o && (twin.z === e.z ? e.port === 'l' : e.k === 0)) ? -1 : 1) * Math.min(14,
-          A.w / 5); }
+      if (twin) { const mine = e.path[1].x, o = twin.path[1].x, isLeftOne = mine < o || (mine === o && (twin.z === e.z ? e.port === 'l' : e.k === 0));
+          out = (isLeftOne ? -1 : 1) * Math.min(14, A.w / 5); }
       pts.push([A.x + out, A.y + NH]);
       for (const v of e.path.slice(1, -1)) pts.push([b.x + v.x, b.y + 52 + v.row * LH], [b.x + v.x, b.y + 52 + v.row * LH + NH]);
       const end = [Z.x + (dst.two ? (e.port === 'l' ? -1 : 1) * Z.w / 4 : 0), Z.y];
@@ -183,7 +185,8 @@ function draw(list) {
       sv('defs', {}, arrow('arrow', 'var(--faint)'), arrow('arrowf', 'var(--manager)'), arrow('arrowm', 'var(--memory)')), g, layer) : null;
   const tables = big.map(b => {
     const body = el('tbody', {});
-    for (const c of b.view) { const r = el('tr', {on: () => choose({ip: c.ip, of: ofInstruction(c.ip)})}, el('td', {}, String(c.k)), el('td', {}, el('b', {}, c.name)),
+    for (const c of b.view) { const r = el('tr', {on: () => choose({ip: c.ip, of: ofInstruction(c.ip)})}, el('td', {}, String(c.k)),
+        el('td', {}, el('b', {}, c.name)),
         el('td', {}, c.slot === null ? '-' : String(c.slot)), c.d.map(d => el('td', {}, d ? '+' + (d.ip - c.ip) + d.port : '-')),
         el('td', {}, c.op || '-'), el('td', {})); body.append(r); rowOf.set(c.ip, r); }
     return el('div', {class: 'tbl mono'}, el('b', {}, bname(b)), el('table', {},

@@ -67,7 +67,6 @@ input:not([type]){font:inherit;border:1px solid var(--line);border-radius:6px;ba
   #at{min-width:0;font-size:.86rem}
   #ctl button{min-height:2.3rem}
   #more button,#more select,#goto,#find{min-height:2rem}
-  #graph{max-height:24rem}
 }
 .row{display:flex;flex-wrap:wrap;gap:.3rem .6rem;align-items:center;margin-bottom:.4rem}
 .row h2{margin:0;margin-right:auto}
