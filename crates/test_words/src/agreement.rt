@@ -7,7 +7,7 @@ use command_line::{
     RunOptions, Sizes, Take, Topic, read_given, read_words, version_line,
 };
 use command_texts::{help_text, mistake_text, program_command};
-use std::alloc::{AllocError, Global};
+use std::alloc::Global;
 use std::fmt;
 
 /// How many lists of words ask for each thing.
@@ -239,16 +239,20 @@ fn are_inputs(inputs: &Inputs, words: &[&str]) -> bool {
     }
 }
 
-/// The words that `clap` reads as inputs of an object where no file is named: its first word is that of the file there.
-fn input_words<'a>(alloc: Global, exec: &'a ArgMatches<'a>) -> Result<Vec<&'a str>, AllocError> {
+/// Whether `clap` reads these inputs of an object where no file is named: its first word is that of the file there.
+fn are_inputs_of_object(alloc: Global, inputs: &Inputs, exec: &ArgMatches<'_>) -> bool {
     let mut words = Vec::new(alloc);
     if let Some(first) = exec.get_str("FILE") {
-        words.push(first)?;
+        if words.push(first).is_err() {
+            return false;
+        }
     }
     for word in exec.get_strs("INPUT").unwrap_or(&[]) {
-        words.push(*word)?;
+        if words.push(*word).is_err() {
+            return false;
+        }
     }
-    Ok(words)
+    are_inputs(inputs, words.as_slice())
 }
 
 /// Whether `clap` reads this file and these inputs after it.
@@ -292,11 +296,11 @@ fn is_request_read(request: &Request, matches: &ArgMatches<'_>) -> bool {
 fn is_read(alloc: Global, request: &Request, matches: &ArgMatches<'_>) -> bool {
     match (request, matches.subcommand()) {
         (Request::Exec { options, inputs }, Some(("exec", exec))) => {
-            match (options_in(exec), input_words(alloc, exec)) {
-                (Some(other), Ok(words)) => {
-                    are_same(options, &other) && are_inputs(inputs, words.as_slice())
+            match options_in(exec) {
+                Some(other) => {
+                    are_same(options, &other) && are_inputs_of_object(alloc, inputs, exec)
                 }
-                _ => false,
+                None => false,
             }
         }
         _ => is_request_read(request, matches),
