@@ -1,0 +1,8 @@
+//! The programs of texts with derived forms: what a text's tokens say is read by the parser's automaton.
+#![tactic(auto)]
+
+mod after;
+mod lexeme;
+mod outcome;
+mod reaction;
+mod signs;
