@@ -54,8 +54,8 @@ Does outcome pushes meant = (names : List Name) → doing_named names (shown out
 -- DEPTH. Where a symbol puts one that is deeper, there is room.
 abbrev pub IsShallow : Symbol ℕ → Type 0
 IsShallow (Steps depth) = depth < 200
-IsShallow (ArmEnd at depth) = depth < 200
-IsShallow (StepOtherwise at depth) = depth < 200
+IsShallow (ArmEnd at depth) = depth < 199
+IsShallow (StepOtherwise at depth) = depth < 199
 IsShallow (StepEnd depth) = depth < 200
 IsShallow (Operand level depth) = depth ≤ 200
 IsShallow (Negated depth) = depth ≤ 200

@@ -2,7 +2,11 @@
 #![tactic(auto)]
 
 mod after;
+mod bodies;
+mod forms;
+mod items;
 mod lexeme;
+mod operands;
 mod outcome;
 mod reaction;
 mod signs;
