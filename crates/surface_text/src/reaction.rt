@@ -1,6 +1,6 @@
 //! What each symbol of the stack does with a token.
 
-ghost use Rattle.std.specs.Prelude.{◌≡◌, ◌≤◌, ◌<◌, ◌+◌, None, OnSome};
+ghost use Rattle.std.specs.Prelude.{◌≡◌, ◌≤◌, ◌<◌, ◌+◌, None, IfSome};
 ghost use Rattle.source.specs.Words.{name_of};
 ghost use Rattle.source.specs.declared.token.Sign.TheVariants as core_sign;
 ghost use Rattle.source.specs.declared.token.Keyword.TheVariants as core_keyword;
@@ -352,4 +352,107 @@ fn one_word(pushes: &mut Pushes, keyword: CoreKeyword, lexeme: Lexeme) -> Outcom
         } if read == keyword => { takes(pushes, 0, &[], &[]) }
         _ => refuses(),
     }
+}
+
+/// What the symbol does with a token that says this, where what is above it is an `if` that ended without its last `else`.
+pub(crate) fn react_lacking(pushes: &mut Pushes, symbol: Symbol<usize>, lexeme: Lexeme) -> Reaction
+    requires { IsShallow symbol }
+    ensures does { Reacts result pushes.new (λ names. automaton.lacking_step (named_symbol names symbol) (lexeme_named names lexeme)) }
+    ensures shallow { AreAllShallow result pushes.new }
+{
+    match symbol {
+        Symbol::ChainEnd { at: begun } => plain(lacks(pushes, &[Word::EndWhen { at: begun }])),
+        Symbol::After { .. } | Symbol::Further { .. } => plain(lacks(pushes, &[])),
+        Symbol::StepEnd { depth } => plain(when_end(pushes, depth, lexeme)),
+        _ => plain(refuses()),
+    }
+}
+
+/// What the symbol does with a token that says this. There is none where the dimensions of a parameter cannot be counted.
+pub(crate) fn react(
+    pushes: &mut Pushes,
+    symbol: Symbol<usize>,
+    at: usize,
+    lexeme: Lexeme,
+) -> Option<Reaction>
+    requires { IsShallow symbol }
+    ensures does { IfSome result (λ reaction. Reacts reaction pushes.new (λ names. automaton.step (named_symbol names symbol) at (lexeme_named names lexeme))) }
+    ensures shallow { IfSome result (λ reaction. AreAllShallow reaction pushes.new) }
+{
+    Some(match symbol {
+        Symbol::Sign { sign } => plain(one_sign(pushes, sign, lexeme)),
+        Symbol::Keyword { keyword } => plain(one_word(pushes, keyword, lexeme)),
+        Symbol::Emit { word } => plain(passes(pushes, &[word])),
+        Symbol::Name { word } => plain(one_name(pushes, word, at, lexeme)),
+        Symbol::Items => plain(items(pushes, lexeme)),
+        Symbol::Parameter => plain(parameter(pushes, at, lexeme)),
+        Symbol::AfterParameter { at: named, name } => {
+            plain(after_parameter(pushes, Named { at: named, name }, lexeme))
+        }
+        Symbol::Rank {
+            at: named,
+            name,
+            rank: count,
+        } => {
+            if count == usize::MAX {
+                return None;
+            }
+            plain(rank(pushes, Named { at: named, name }, count, lexeme))
+        }
+        Symbol::Parameters => plain(parameters(pushes, lexeme)),
+        Symbol::Results => plain(results(pushes, lexeme)),
+        Symbol::ResultCount => plain(result_count(pushes, at, lexeme)),
+        Symbol::FunctionBody => plain(function_body(pushes, at, lexeme)),
+        Symbol::Steps { depth } => steps(pushes, depth, at, lexeme),
+        Symbol::ArmEnd { at: begun, depth } => plain(arm_end(pushes, begun, depth, lexeme)),
+        Symbol::StepOtherwise { at: begun, depth } => {
+            plain(step_otherwise(pushes, begun, depth, at, lexeme))
+        }
+        Symbol::ChainEnd { at: begun } => plain(passes(
+            pushes,
+            &[
+                Word::Core {
+                    word: CoreWord::Chain,
+                },
+                Word::Core {
+                    word: CoreWord::EndIf { at: begun },
+                },
+            ],
+        )),
+        Symbol::Target => plain(target(pushes, at, lexeme)),
+        Symbol::Targets => plain(targets(pushes, lexeme)),
+        Symbol::StepEnd { depth } => plain(step_end(pushes, depth, lexeme)),
+        Symbol::Operand { level, depth } => plain(operand(pushes, level, depth, at, lexeme)),
+        Symbol::Negated { depth } => plain(negated(pushes, depth, at, lexeme)),
+        Symbol::After { level, left, depth } => {
+            plain(after(pushes, level, left, depth, at, lexeme))
+        }
+        Symbol::AfterName {
+            at: named,
+            name,
+            level,
+            depth,
+        } => { after_name(pushes, Named { at: named, name }, level, depth, at, lexeme) }
+        Symbol::AfterIndexes {
+            at: cell,
+            array: name,
+            level,
+            depth,
+        } => { after_indexes(pushes, Named { at: cell, name }, level, depth, at, lexeme) }
+        Symbol::Callee { depth } => plain(callee(pushes, depth, at, lexeme)),
+        Symbol::Further { depth } => plain(further(pushes, depth, lexeme)),
+        Symbol::Indexes { depth } => plain(indexes(pushes, depth, lexeme)),
+        Symbol::Otherwise { depth } => plain(otherwise(pushes, depth, at, lexeme)),
+        Symbol::Bound { at: begun, depth } => plain(bound(pushes, begun, depth, at, lexeme)),
+        Symbol::Starts { depth } => plain(starts(pushes, depth, lexeme)),
+        Symbol::Turn { depth } => plain(turn(pushes, depth, lexeme)),
+        Symbol::ForBound { depth } => plain(for_bound(pushes, depth, at, lexeme)),
+        Symbol::AfterForName {
+            at: named,
+            name,
+            depth,
+        } => { plain(after_for_name(pushes, Named { at: named, name }, depth, at, lexeme)) }
+        Symbol::Range { depth } => plain(range(pushes, depth, lexeme)),
+        Symbol::Carried { depth } => plain(carried(pushes, depth, lexeme)),
+    })
 }
