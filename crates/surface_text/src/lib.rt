@@ -8,5 +8,6 @@ mod items;
 mod lexeme;
 mod operands;
 mod outcome;
+mod parser;
 mod reaction;
 mod signs;
