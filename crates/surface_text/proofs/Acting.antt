@@ -15,7 +15,7 @@ use Rattle.surface.specs.Spelled.{Lexeme}
 use Rattle.surface.specs.Words.{Words, named}
 use Rattle.law_surface_text.specs.declared.symbol.Symbol.{Symbol}
 use Rattle.law_surface_text.specs.declared.symbol.Symbol.TheVariants.{Emit, Items, Further, StepEnd}
-use Rattle.law_surface_text.specs.Automaton.{Outcome, Takes, Passes, Lacks, Refuses, appending, above, Moved, moved_after, advance_by, advance, ended, ended_then}
+use Rattle.law_surface_text.specs.Automaton.{step_below, Outcome, Takes, Passes, Lacks, Refuses, appending, above, Moved, moved_after, advance_by, advance, ended, ended_then}
 use Rattle.law_surface_text.specs.Automaton.{finish, finished, words_after}
 use Rattle.law_surface_text.specs.Named.{named_symbol, named_stack}
 use Rattle.surface_text.specs.Outcomes.{few, shown, doing_named, behind, atop, reaction_named, IsShallow, AreShallow, IsShallowBelow, AreAllShallow}
@@ -139,6 +139,13 @@ module _ (names : List Name) where
   acted_lacks at l s w (Some x) None words = passed_words true at l s w (x ∷ []) words
   acted_lacks at l s w (Some x) (Some d) words = passed_words true at l s w (x ∷ []) words
 
+  -- the symbol on top meets the token
+  pub met : (lacks : Bool) (at : ℕ) (l : Lexeme) (s t : List (Symbol ℕ)) (x : Symbol ℕ) (w : List (Word ℕ)) (o : Outcome) → s ≡ t ++ x ∷ []
+      → o ≡ step_below lacks (named_symbol names x) at l → onward lacks at l (state names s w) ≡ reacted at l (state names t w) o
+  met lacks at l s t x w o e is =
+      ap (λ stack. moved_after (words_named names w) (advance 200 stack lacks at l)) (ap (named_stack names) e ∙ stack_more t x)
+      ∙ ap (reacted at l (state names t w)) (sym is)
+
   -- THE END
   ends_after : (end : ℕ) (a b : Words) (o : Option Words) → words_after a (finished end (ended_then (Some b) o)) ≡ words_after (a ++ b) (finished end o)
   ends_after end a b None = refl
@@ -151,3 +158,7 @@ module _ (names : List Name) where
 pub same_fault : {T : Type 0} (f : Fault) (x y : Result T Fault) → y ≡ x → IsFault f x → IsFault f y
 same_fault f x y e (inl memory) = inl memory
 same_fault f x y e (inr is) = inr (e ∙ is)
+
+pub same_kind : {T : Type 0} (k j : CoreFaultKind) (x y : Result T CoreFaultKind) → y ≡ x → j ≡ k → IsKind k x → IsKind j y
+same_kind k j x y e f (inl memory) = inl (f ∙ memory)
+same_kind k j x y e f (inr is) = inr (e ∙ is ∙ ap Err (sym f))

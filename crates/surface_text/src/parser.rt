@@ -7,11 +7,13 @@ ghost use Rattle.source.specs.Tree.{Name};
 ghost use Rattle.source.specs.declared.fault.FaultKind.TheVariants.{Memory};
 ghost use Rattle.surface.specs.Spelled as spelled;
 ghost use Rattle.surface.specs.declared.fault.FaultKind.TheVariants.{Core};
-ghost use Rattle.surface_text.specs.Outcomes.{reaction_named, IsShallow, AreAllShallow};
-ghost use Rattle.surface_text.specs.Running.{below_of, words_named, state, reacted, after_act, ending, IsKind, IsFault};
+ghost use Rattle.surface_text.specs.Outcomes.{lexeme_named, reaction_named, IsShallow, AreAllShallow};
+ghost use Rattle.surface_text.specs.declared.parser.Acted.TheVariants as acted;
+ghost use Rattle.surface_text.specs.Running.{below_of, words_named, state, onward, reacted, after_act, ending, IsKind, IsFault};
 
+use crate::lexeme::Lexeme;
 use crate::outcome::{Outcome, Pushes};
-use crate::reaction::Reaction;
+use crate::reaction::{Reaction, react_below};
 use law_surface_text::symbol::Symbol;
 use source::fault::FaultKind;
 use std::alloc::Allocator;
@@ -99,6 +101,8 @@ impl<A: Allocator> Parser<A> {
             ≡ after_act acted at l (state names self.new.stack.items self.new.words.items))
             (λ kind. IsKind kind (reacted at l (state names self.old.stack.items self.old.words.items) (reaction_named names reaction pushes.now))) }
         ensures shallow { OnOk result (All IsShallow self.new.stack.items) }
+        ensures passed { result ≡ Ok acted.Passed → self.new.stack.items ≡ self.old.stack.items }
+        ensures lacked { result ≡ Ok acted.Lacked → self.new.stack.items ≡ self.old.stack.items }
     {
         self.push_word(reaction.before)?;
         match reaction.outcome {
@@ -121,6 +125,40 @@ impl<A: Allocator> Parser<A> {
             }
             Outcome::Refuses => Err(FaultKind::Unexpected),
         }
+    }
+
+    /// Takes a token, or returns why it does not go on.
+    pub(crate) fn take(
+        &mut self,
+        pushes: &mut Pushes,
+        at: usize,
+        lexeme: Lexeme,
+    ) -> Result<(), FaultKind>
+        requires { All IsShallow self.old.stack.items }
+        ensures took { (names : List Name) → MatchResult result
+            (λ _. onward false at (lexeme_named names lexeme) (state names self.old.stack.items self.old.words.items)
+            ≡ Ok (state names self.new.stack.items self.new.words.items))
+            (λ kind. IsKind kind (onward false at (lexeme_named names lexeme) (state names self.old.stack.items self.old.words.items))) }
+        ensures shallow { OnOk result (All IsShallow self.new.stack.items) }
+    {
+        let mut lacking = false;
+        while let Some(symbol) = self.stack.pop() {
+            let Some(reaction) = react_below(pushes, symbol, lacking, at, lexeme) else {
+                return Err(FaultKind::Memory);
+            };
+            let acted = match self.act(reaction, pushes) {
+                Ok(acted) => acted,
+                Err(kind) => {
+                    return Err(kind);
+                }
+            };
+            match acted {
+                Acted::Taken => return Ok(()),
+                Acted::Passed => lacking = false,
+                Acted::Lacked => lacking = true,
+            }
+        }
+        Err(FaultKind::Unexpected)
     }
 
     /// Does what a symbol that was on top of the stack does at the end: it may add words, and begins no further item.

@@ -456,3 +456,23 @@ pub(crate) fn react(
         Symbol::Carried { depth } => plain(carried(pushes, depth, lexeme)),
     })
 }
+
+/// The same, where what is above the symbol is an `if` that ended without its last `else`, or not.
+pub(crate) fn react_below(
+    pushes: &mut Pushes,
+    symbol: Symbol<usize>,
+    lacking: bool,
+    at: usize,
+    lexeme: Lexeme,
+) -> Option<Reaction>
+    requires { IsShallow symbol }
+    ensures does { IfSome result (λ reaction. Reacts reaction pushes.new
+        (λ names. automaton.step_below lacking (named_symbol names symbol) at (lexeme_named names lexeme))) }
+    ensures shallow { IfSome result (λ reaction. AreAllShallow reaction pushes.new) }
+{
+    if lacking {
+        Some(react_lacking(pushes, symbol, lexeme))
+    } else {
+        react(pushes, symbol, at, lexeme)
+    }
+}
