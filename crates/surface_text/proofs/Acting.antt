@@ -1,22 +1,21 @@
 -- WHAT A SYMBOL DOES to a parser's state, with numbers for names.
-use Rattle.std.proofs.Common.{◌≡◌, ℕ, ◌≤◌, ◌<◌, length, arith, Bool, true, false, List, [], ◌∷◌, ◌++◌, map, reverse, Option, None, Some, Result, Ok, Err}
-use Rattle.std.proofs.Common.{MatchResult, if◌then◌else◌, inl, inr, refl, sym, ap, ap₂, ◌∙◌, subst, append_assoc, append-nil}
+use Rattle.std.proofs.Common.{◌≡◌, ℕ, ◌≤◌, length, arith, Bool, true, false, List, [], ◌∷◌, ◌++◌, map, reverse, Option, None, Some, Result, Ok, Err}
+use Rattle.std.proofs.Common.{if◌then◌else◌, inl, inr, refl, sym, ap, ap₂, ◌∙◌, subst, append_assoc, append-nil}
 use Rattle.std.proofs.lemmas.Bool.{le-leb}
 use Rattle.std.proofs.lemmas.List.{map-append, reverse-append}
 use Rattle.std.proofs.lemmas.List.Elements.{All-nil, All-cons, All-append, All-push, All-head, All-tail}
 use Rattle.std.specs.Prelude.{All, option_to_list, nat_le}
 use Rattle.source.specs.declared.fault.FaultKind.{FaultKind as CoreFaultKind}
-use Rattle.source.specs.declared.fault.FaultKind.TheVariants.{Unended, TooDeep}
+use Rattle.source.specs.declared.fault.FaultKind.TheVariants.{TooDeep}
 use Rattle.source.specs.Tree.{Name}
 use Rattle.surface.specs.declared.fault.Fault.{Fault}
-use Rattle.surface.specs.declared.fault.FaultKind.TheVariants.{Core}
 use Rattle.surface.specs.declared.word.Word.{Word}
 use Rattle.surface.specs.Spelled.{Lexeme}
 use Rattle.surface.specs.Words.{Words, named}
 use Rattle.law_surface_text.specs.declared.symbol.Symbol.{Symbol}
-use Rattle.law_surface_text.specs.declared.symbol.Symbol.TheVariants.{Emit, Items, Further, StepEnd}
-use Rattle.law_surface_text.specs.Automaton.{step_below, Outcome, Takes, Passes, Lacks, Refuses, appending, above, Moved, moved_after, advance_by, advance, ended, ended_then}
-use Rattle.law_surface_text.specs.Automaton.{finish, finished, words_after}
+use Rattle.law_surface_text.specs.declared.symbol.Symbol.TheVariants.{Further, StepEnd}
+use Rattle.law_surface_text.specs.Automaton.{step_below, Outcome, Takes, Passes, Lacks, Moved, moved_after, advance, ended_then}
+use Rattle.law_surface_text.specs.Automaton.{finished, words_after}
 use Rattle.law_surface_text.specs.Named.{named_symbol, named_stack}
 use Rattle.surface_text.specs.Outcomes.{few, shown, doing_named, behind, atop, reaction_named, IsShallow, AreShallow, IsShallowBelow, AreAllShallow}
 use Rattle.surface_text.specs.declared.outcome.Pushes.{Pushes}

@@ -1,5 +1,4 @@
 use Rattle.std.proofs.Common.{◌++◌, reverse, ap, ap₂, ◌∙◌}
-use Rattle.std.specs.Prelude.{option_to_list}
 use Rattle.surface_text.specs.Running.{below_of}
 use Rattle.surface_text.proofs.Acting.{acts_takes, stays_shallow}
 use Rattle.surface_text.proofs.parser.Parser.act.Goals as goal
