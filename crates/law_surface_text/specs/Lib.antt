@@ -1,3 +1,4 @@
 pub mod Automaton
 pub mod Law
 pub mod Ready
+pub mod Named
