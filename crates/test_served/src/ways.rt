@@ -18,17 +18,12 @@ const BY_DEPTH: Order = Order {
     take: "depth",
 };
 
-const ROUNDS_BY_DEPTH: Order = Order {
-    mode: "rounds",
-    take: "depth",
-};
-
 const FREE_BY_DEPTH: Order = Order {
     mode: "free",
     take: "depth",
 };
 
-const ORDERS: [Order; 6] = [
+const ORDERS: [Order; 5] = [
     Order {
         mode: "one",
         take: "oldest",
@@ -38,7 +33,6 @@ const ORDERS: [Order; 6] = [
         mode: "rounds",
         take: "oldest",
     },
-    ROUNDS_BY_DEPTH,
     Order {
         mode: "free",
         take: "oldest",
@@ -60,7 +54,7 @@ impl Orders {
     fn list(self) -> &'static [Order] {
         match self {
             Orders::All => &ORDERS,
-            Orders::ByDepth => &[BY_DEPTH, ROUNDS_BY_DEPTH, FREE_BY_DEPTH],
+            Orders::ByDepth => &[BY_DEPTH, FREE_BY_DEPTH],
         }
     }
 
