@@ -148,7 +148,9 @@ fn defaults_of<S: AsStr>(words: &[S]) -> Defaults {
     };
     let take = match file.request {
         Request::Run(options) | Request::RunEnough(options) => options.take,
-        Request::Exec { options, .. } | Request::Trace { options, .. } => options.take,
+        Request::Exec { options, .. }
+        | Request::Trace { options, .. }
+        | Request::Orders { options, .. } => options.take,
         _ => Some(Take::Depth),
     };
     Defaults {
