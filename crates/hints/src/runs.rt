@@ -15,7 +15,8 @@ use crate::lines::{
 use crate::message::{Counted, Found, Special, nowhere};
 use crate::sources::{Program, Sought as SoughtNodes, Source};
 use crate::words::{Sought, first_of, plain_at};
-use command_line::{Inputs, Mode, Request, RunOptions, Sizes, Take};
+use command_line::{Inputs, Request, RunOptions, Sizes, Take};
+use mode::Mode;
 use object_view::Object;
 use oracle::MeanEnd;
 use outcomes::{Ending, FailedRow, MadeFault};

@@ -3,10 +3,11 @@
 use clap::ArgMatches;
 use clap::error::ErrorKind;
 use command_line::{
-    Asked, EventFormat, FileRequest, Format, Given, Inputs, Literals, Lowering, Mode, Request,
+    Asked, EventFormat, FileRequest, Format, Given, Inputs, Literals, Lowering, Request,
     RunOptions, Sizes, Take, Topic, read_given, read_words, version_line,
 };
 use command_texts::{help_text, mistake_text, program_command};
+use mode::Mode;
 use std::alloc::Global;
 use std::fmt;
 
