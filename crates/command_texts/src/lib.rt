@@ -64,7 +64,7 @@ The language, with its refusals: docs/LANGUAGE.md. What is printed: docs/FORMATS
 const AFTER_RUN: &str = "\
 Examples: ets run examples/factorial.df 20
           ets run --elements 4 --frames enough examples/factorial.df 20
-          ets run --cells Product --grid Product=8 examples/matrix_product.df
+          ets run --cells C --grid C=8 examples/matrix_product.df 8
           ets run --elements 4 --frames 64 < examples/factorial.ets
 The report, the ends of a run and their exit statuses: docs/FORMATS.md, \"Report of `ets run`\".";
 
