@@ -136,19 +136,26 @@ with_file_option g FileOption.Cells = if g.cells then None else Some (record g {
 with_file_option g FileOption.Grid = if g.grid then None else Some (record g { grid = true })
 with_file_option g FileOption.Quiet = if g.quiet then None else Some (record g { quiet = true })
 
--- the value that follows the option's name, or the next word, where the words have a file
+-- THE VALUE OF AN OPTION among words that have a file: what follows `=`, or the next word. After `--` there are no options.
 abbrev pub value_or_next : Option Text → List Text → Option Text
 value_or_next (Some value) rest = Some value
 value_or_next None rest = slice_get rest 0
 
-abbrev pub value_or : Text → Option (Text × Option Text) → List Text → Option Text → Option Text
-value_or name None rest later = later
-value_or name (Some p) rest later = if bytes_eq p.0 name then value_or_next p.1 rest else later
+abbrev pub value_of : Text → Option (Text × Option Text) → List Text → Option (Option Text)
+value_of name None rest = None
+value_of name (Some p) rest = if bytes_eq p.0 name then Some (value_or_next p.1 rest) else None
+
+-- where this word settles it
+abbrev pub value_found : Text → Text → List Text → Option (Option Text)
+value_found name word rest = if bytes_eq word (codes "--") then Some None else value_of name (long_of word) rest
+
+abbrev pub found_or : Option (Option Text) → Option Text → Option Text
+found_or None later = later
+found_or (Some value) later = value
 
 unfoldable pub option_value : Text → List Text → Option Text
 option_value name [] = None
-option_value name (word ∷ rest) =
-    if bytes_eq word (codes "--") then None else value_or name (long_of word) rest (option_value name rest)
+option_value name (word ∷ rest) = found_or (value_found name word rest) (option_value name rest)
 
 -- What is to be done with the file of this name. The inputs of `exec` are those of its request.
 abbrev pub file_request : Command → Collected → FileOptions → Text → Inputs → Given

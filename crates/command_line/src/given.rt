@@ -1,11 +1,11 @@
 //! The file that the words of a command name.
 
-ghost use Rattle.std.specs.Prelude.{◌≡◌, map, None, option_map, slice_get};
-ghost use Rattle.command_line.specs.Words.{no_inputs, nothing};
+ghost use Rattle.std.specs.Prelude.{◌≡◌, ◌<◌, IfSome, map, None, option_map, slice_get};
+ghost use Rattle.command_line.specs.Words.{long_of, no_inputs, nothing};
 ghost use Rattle.command_line.specs.Files.{all_given, are_rows, are_some, end_given, file_option_at, file_option_given, file_option_named, file_request, file_take};
 ghost use Rattle.command_line.specs.Files.{first_given, given, given_of, help_given, inputs_given, is_file, is_grid, is_plain, is_row, is_value, no_options};
 ghost use Rattle.command_line.specs.Files.{no_words, option_given, option_value, plain_given, prints_report, reads_program, row_length, step_given, takes_file_option};
-ghost use Rattle.command_line.specs.Files.{takes_inputs_after, unwanted_given, value_given, with_file_defaults, with_file_option, word_given};
+ghost use Rattle.command_line.specs.Files.{takes_inputs_after, unwanted_given, value_found, value_given, value_of, with_file_defaults, with_file_option, word_given};
 
 use crate::inputs::Inputs;
 use crate::options::{
@@ -210,9 +210,10 @@ fn file_option_at(
     }
 }
 
-/// How many cells a row has, by the text after the array's name.
-fn row_length(digits: Option<&str>) -> Option<u64>
-    ensures { result ≡ row_length (option_map (λ s. s.now) digits.entry) }
+/// How many cells a row has, by the text after the array's name: a number other than 0.
+pub fn row_length(digits: Option<&str>) -> Option<u64>
+    ensures same { result ≡ row_length (option_map (λ s. s.now) digits.entry) }
+    ensures positive { IfSome result (λ n. 0 < n) }
 {
     match number_of(digits?) {
         Some(number) if number != 0 => Some(number),
@@ -229,6 +230,7 @@ fn is_row(part: &str) -> bool
 }
 
 /// Whether each part of the text does; it has at most `room` of them.
+#[tactic(auto, unfolding(crate::specs::Files::are_rows))]
 fn are_rows(room: u8, text: &str) -> bool
     ensures { result ≡ are_rows room text.now }
 {
@@ -572,25 +574,6 @@ pub fn read_given<'a, S: AsStr>(words: &'a [S]) -> Given<'a>
     }
 }
 
-/// The value that the option of this name has among words that name a file: what follows its name and `=`, or the next word. The words
-/// after `--` have no options. It takes no memory.
-pub fn option_value<'a, S: AsStr>(name: &str, words: &'a [S]) -> Option<&'a str>
-    ensures { option_map (λ s. s.now) result ≡ option_value name.now (map S.text words.now) }
-{
-    for (i, word) in words.iter().enumerate() {
-        let word = word.as_str();
-        if word == "--" {
-            return None;
-        }
-        match long_of(word) {
-            Some((found, Some(value))) if found == name => return Some(value),
-            Some((found, None)) if found == name => return first_of(&words[i + 1..]),
-            _ => {}
-        }
-    }
-    None
-}
-
 /// The first word, if there is one.
 fn first_of<'a, S: AsStr>(words: &'a [S]) -> Option<&'a str>
     ensures { option_map (λ s. s.now) result ≡ slice_get (map S.text words.now) 0 }
@@ -599,4 +582,42 @@ fn first_of<'a, S: AsStr>(words: &'a [S]) -> Option<&'a str>
         Some(word) => Some(word.as_str()),
         None => None,
     }
+}
+
+/// The value of the option of this name, which follows `=` in this word or is the next one, if the word names the option.
+fn value_of<'a, S: AsStr>(name: &str, word: &'a str, words: &'a [S]) -> Option<Option<&'a str>>
+    ensures { option_map (λ v. option_map (λ s. s.now) v) result ≡ value_of name.now (long_of word.now) (map S.text words.now) }
+{
+    let (found, value) = long_of(word)?;
+    if found != name {
+        return None;
+    }
+    match value {
+        Some(value) => Some(Some(value)),
+        None => Some(first_of(words)),
+    }
+}
+
+/// The same, or that there is none, where this word settles it: after `--` there are no options.
+fn value_found<'a, S: AsStr>(name: &str, word: &'a str, words: &'a [S]) -> Option<Option<&'a str>>
+    ensures { option_map (λ v. option_map (λ s. s.now) v) result ≡ value_found name.now word.now (map S.text words.now) }
+{
+    if word == "--" {
+        Some(None)
+    } else {
+        value_of(name, word, words)
+    }
+}
+
+/// The value that the option of this name has among words that name a file: what follows its name and `=`, or the next word. The words
+/// after `--` have no options. It takes no memory.
+pub fn option_value<'a, S: AsStr>(name: &str, words: &'a [S]) -> Option<&'a str>
+    ensures { option_map (λ s. s.now) result ≡ option_value name.now (map S.text words.now) }
+{
+    for (i, word) in words.iter().enumerate() {
+        if let Some(value) = value_found(name, word.as_str(), &words[i + 1..]) {
+            return value;
+        }
+    }
+    None
 }

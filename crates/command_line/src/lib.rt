@@ -11,9 +11,12 @@ mod inputs;
 mod options;
 mod sizes;
 
-pub use given::{FileName, FileOptions, FileRequest, Given, is_grid, option_value, read_given};
+pub use given::{
+    FileName, FileOptions, FileRequest, Given, is_grid, option_value, read_given, row_length,
+};
 pub use inputs::Inputs;
 use mode::Mode;
+pub use options::parts_at;
 use options::{
     Collected, OptionName, Step, asks_help, asks_version, request_of, takes_inputs, word_met,
 };

@@ -520,8 +520,8 @@ pub(crate) fn asks_version(word: &str) -> bool
     word == "--version" || is_short('V', word)
 }
 
-/// What is before the first separator, and what is after it if there is one.
-pub(crate) fn parts_at(separator: char, text: &str) -> (&str, Option<&str>)
+/// What is before the first separator, an ASCII character, and what is after it if there is one.
+pub fn parts_at(separator: char, text: &str) -> (&str, Option<&str>)
     requires { separator < 128 }
     ensures { (result.0.now, option_map (λ s. s.now) result.1) ≡ parts_at separator text.now }
 {
