@@ -1,5 +1,5 @@
 -- WHICH CELLS OF A REPORT ARE PRINTED, AND HOW: what `--cells` and `--grid` make of a report's text.
-use Rattle.std.specs.Prelude.{ℕ, zero, suc, ◌+◌, ◌-◌, ◌*◌, ◌/◌, ◌%◌, ◌==◌, ◌&&◌, ◌||◌, Bool, true, false, not, nat_le, List, [], ◌∷◌, ◌++◌, take, drop}
+use Rattle.std.specs.Prelude.{ℕ, zero, suc, ◌+◌, ◌-◌, ◌*◌, ◌/◌, ◌%◌, ◌==◌, ◌&&◌, ◌||◌, Bool, true, false, not, nat_le, List, [], ◌∷◌, ◌++◌, length, take, drop}
 use Rattle.std.specs.Prelude.{if◌then◌else◌, Option, Some, None, option_map, option_and_then, codes, decimal}
 use Rattle.std.specs.List.{position}
 use Rattle.std.specs.Str.{bytes_eq}
@@ -80,33 +80,40 @@ closing (Some r) = 10 ∷ []
 abbrev pub first_of : ℕ → ℕ → ℕ
 first_of index n = index - index % n
 
-abbrev pub goes_on : Option Row → Cell → ℕ → Bool
-goes_on None c n = false
-goes_on (Some r) c n = bytes_eq r.name c.name && r.first == first_of c.index n && nat_le r.printed (c.index % n)
+abbrev pub goes_on : Option Row → Text → ℕ → ℕ → Bool
+goes_on None name index n = false
+goes_on (Some r) name index n = bytes_eq r.name name && r.first == first_of index n && nat_le r.printed (index % n)
 
 -- an empty cell is ` -` (32, 45)
 unfoldable pub empty_cells : ℕ → Text
 empty_cells zero = []
 empty_cells (suc n) = 32 ∷ 45 ∷ empty_cells n
 
+-- a value after empty cells
+abbrev pub value_after : ℕ → Text → Text
+value_after k value = empty_cells k ++ field value
+
 abbrev pub printed_of : Option Row → ℕ
 printed_of None = 0
 printed_of (Some r) = r.printed
 
--- A cell in a row of n: after the cells of the row before it, empty ones as `-`; or at the beginning of a row, `cells ARRAY INDEX`, where INDEX is that of
--- the row's first cell.
-abbrev pub row_text : Option Row → Cell → ℕ → Text
-row_text row c n =
-    if goes_on row c n then empty_cells (c.index % n - printed_of row) ++ field c.value
-    else closing row ++ codes "cells " ++ c.name ++ field (decimal (first_of c.index n)) ++ empty_cells (c.index % n) ++ field c.value
+-- the beginning of a row with this cell: `cells ARRAY INDEX`, where INDEX is that of the row's first cell
+abbrev pub beginning : Text → ℕ → ℕ → Text
+beginning name index n = codes "cells " ++ (name ++ field (decimal (first_of index n)))
 
-abbrev pub row_after : Cell → ℕ → Row
-row_after c n = record { name = c.name; first = first_of c.index n; printed = c.index % n + 1 }
+-- A cell in a row of n: after the cells of the row before it, empty ones as `-`; or in a row that begins.
+abbrev pub row_text : Option Row → Text → ℕ → Text → ℕ → Text
+row_text row name index value n =
+    if goes_on row name index n then value_after (index % n - printed_of row) value
+    else (closing row ++ beginning name index n) ++ value_after (index % n) value
+
+abbrev pub row_after : Text → ℕ → ℕ → Row
+row_after name index n = record { name = name; first = first_of index n; printed = index % n + 1 }
 
 -- A LINE of a report: what is printed of it, after the row that is open
 abbrev pub in_row_text : Option Row → Text → Cell → Option ℕ → Text
 in_row_text row text c None = closing row ++ line text
-in_row_text row text c (Some n) = row_text row c n
+in_row_text row text c (Some n) = row_text row c.name c.index c.value n
 
 abbrev pub cell_text : Option Text → Option Text → Option Row → Text → Option Cell → Text
 cell_text cells grid row text None = closing row ++ line text
@@ -118,7 +125,7 @@ line_text cells grid row text = cell_text cells grid row text (cell_of text)
 -- and the row that is open after it
 abbrev pub row_of_cell : Option Text → Option Text → Option Row → Option Cell → Option Row
 row_of_cell cells grid row None = None
-row_of_cell cells grid row (Some c) = if is_chosen cells c.name then option_map (row_after c) (row_of grid c.name) else row
+row_of_cell cells grid row (Some c) = if is_chosen cells c.name then option_map (row_after c.name c.index) (row_of grid c.name) else row
 
 abbrev pub row_of_line : Option Text → Option Text → Option Row → Text → Option Row
 row_of_line cells grid row text = row_of_cell cells grid row (cell_of text)
@@ -126,8 +133,9 @@ row_of_line cells grid row text = row_of_cell cells grid row (cell_of text)
 -- ALL LINES; after the last line feed nothing is left
 unfoldable pub lines_text : Option Text → Option Text → Option Row → List Text → Text
 lines_text cells grid row [] = closing row
-lines_text cells grid row (text ∷ []) = closing row ++ text
-lines_text cells grid row (text ∷ next ∷ more) = line_text cells grid row text ++ lines_text cells grid (row_of_line cells grid row text) (next ∷ more)
+lines_text cells grid row (text ∷ more) =
+    if length more == 0 then closing row ++ text
+    else line_text cells grid row text ++ lines_text cells grid (row_of_line cells grid row text) more
 
 -- what is printed of a report with this text
 abbrev pub chosen : Option Text → Option Text → Text → Text

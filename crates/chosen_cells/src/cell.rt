@@ -1,16 +1,26 @@
 //! The line of a full cell.
 
-ghost use Rattle.std.specs.Prelude.{◌≡◌, option_map};
+ghost use Rattle.std.specs.Prelude.{◌≡◌, ◌==◌, option_map};
+ghost use Rattle.std.specs.List.{position};
 ghost use Rattle.chosen_cells.specs.Chosen.{cell, cell_of, cut, named_cell};
 
 use graph_file::number;
+
+/// The index of the first space.
+fn first_space(text: &[u8]) -> Option<usize>
+    ensures { result ≡ position (λ b. b == 32) text.now }
+{
+    text.iter().position(|byte| *byte == b' ')
+}
 
 /// What is before the first space, and what is after it, if there is one.
 fn cut(text: &[u8]) -> Option<(&[u8], &[u8])>
     ensures { option_map (λ p. (p.0.now, p.1.now)) result ≡ cut text.now }
 {
-    let at = text.iter().position(|byte| *byte == b' ')?;
-    Some((&text[..at], &text[at + 1..]))
+    match first_space(text) {
+        Some(at) => Some((&text[..at], &text[at + 1..])),
+        None => None,
+    }
 }
 
 /// The same of this array, where the words after its name are these.

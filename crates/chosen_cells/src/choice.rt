@@ -13,6 +13,7 @@ const NAMES: u16 = 1_024;
 const ROWS: u8 = 64;
 
 /// Whether the name is among those of the list, of which `room` are looked at.
+#[tactic(auto, unfolding(crate::specs::Chosen::is_listed))]
 fn is_listed(room: u16, name: &[u8], list: &str) -> bool
     ensures { result ≡ is_listed room name.now list.now }
 {
@@ -51,6 +52,7 @@ fn own_length(name: &[u8], part: &str) -> Option<u64>
 }
 
 /// How many cells a row of the array has, of a grid of which `room` parts are looked at.
+#[tactic(auto, unfolding(crate::specs::Chosen::length_in))]
 fn length_in(room: u8, name: &[u8], grid: &str) -> Option<u64>
     ensures same { result ≡ length_in room name.now grid.now }
     ensures positive { IfSome result (λ n. 0 < n) }

@@ -12,12 +12,27 @@ use graph_file::Parts;
 use sink::{send, send_all};
 use std::io::{self, Write};
 
+/// Writes the line as it is.
+fn send_text<W: Write>(writer: &mut W, text: &[u8]) -> io::Result<()>
+    ensures { Sends result (W.contents writer.old) (W.contents writer.new) (line text.now) }
+{
+    send_all(writer, &[text, b"\n"])
+}
+
 /// Writes the line as it is, after the row that is open.
 fn send_whole<W: Write>(writer: &mut W, row: &Option<OpenRow<'_>>, text: &[u8]) -> io::Result<()>
     ensures { Sends result (W.contents writer.old) (W.contents writer.new) (closing row.now ++ line text.now) }
 {
     close(writer, row)?;
-    send_all(writer, &[text, b"\n"])
+    send_text(writer, text)
+}
+
+/// Writes what is after the last line feed.
+fn send_last<W: Write>(writer: &mut W, row: &Option<OpenRow<'_>>, text: &[u8]) -> io::Result<()>
+    ensures { Sends result (W.contents writer.old) (W.contents writer.new) (closing row.now ++ text.now) }
+{
+    close(writer, row)?;
+    send(writer, text)
 }
 
 /// Writes what is printed of a line.
@@ -35,7 +50,7 @@ fn send_line<W: Write>(
         return send_whole(writer, row, text);
     };
     if !is_chosen(cells, name) {
-        return Ok(());
+        return send(writer, b"");
     }
     match row_of(grid, name) {
         Some(length) => send_in_row(writer, row, name, index, value, length),
@@ -52,12 +67,16 @@ fn row_after<'a>(
 ) -> Option<OpenRow<'a>>
     ensures { result ≡ row_of_line (option_map (λ s. s.now) cells.entry) (option_map (λ s. s.now) grid.entry) row.entry text.now }
 {
-    let (name, index, _value) = cell_of(text)?;
+    let Some((name, index, _value)) = cell_of(text) else {
+        return None;
+    };
     if !is_chosen(cells, name) {
         return row;
     }
-    let length = row_of(grid, name)?;
-    Some(OpenRow::after(name, index, length))
+    match row_of(grid, name) {
+        Some(length) => Some(OpenRow::after(name, index, length)),
+        None => None,
+    }
 }
 
 /// Writes what is printed of a report with this text, where `--cells` and `--grid` have these values: of the arrays that `cells` names,
@@ -76,8 +95,7 @@ pub fn write_chosen<W: Write>(
     let mut row = None;
     while let Some((line, rest)) = lines.split_first() {
         if rest.has(0) {
-            close(writer, &row)?;
-            return send(writer, line);
+            return send_last(writer, &row, line);
         }
         send_line(writer, cells, grid, &row, line)?;
         row = row_after(cells, grid, row, line);

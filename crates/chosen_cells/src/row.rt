@@ -3,7 +3,7 @@
 ghost use Rattle.std.specs.Prelude.{◌≡◌, ◌<◌, ◌++◌, ◌%◌, ℕ, List, codes, decimal};
 ghost use Rattle.semantics.specs.Text.{field};
 ghost use Rattle.sink.specs.Sends.{Sends};
-ghost use Rattle.chosen_cells.specs.Chosen.{closing, empty_cells, first_of, goes_on, printed_of, row_after, row_text};
+ghost use Rattle.chosen_cells.specs.Chosen.{beginning, closing, empty_cells, first_of, goes_on, printed_of, row_after, row_text, value_after};
 
 use itoa::Buffer;
 use sink::{send, send_all};
@@ -62,7 +62,7 @@ impl<'a> OpenRow<'a> {
     /// The row that is open after this cell.
     pub(crate) fn after(name: &'a [u8], index: u32, length: u64) -> OpenRow<'a>
         requires { 0 < length }
-        ensures { (value : List ℕ) → result ≡ row_after (record { name = name.now; index = index; value = value }) length }
+        ensures { result ≡ row_after name.now index length }
     {
         OpenRow {
             name: ArrayName { bytes: name },
@@ -72,14 +72,21 @@ impl<'a> OpenRow<'a> {
     }
 }
 
+/// The end of the row's line, if one is open.
+fn closing(row: &Option<OpenRow<'_>>) -> &'static [u8]
+    ensures { result.now ≡ closing row.now }
+{
+    match row {
+        Some(_row) => b"\n",
+        None => b"",
+    }
+}
+
 /// Ends the line of the row, if one is open.
 pub(crate) fn close<W: Write>(writer: &mut W, row: &Option<OpenRow<'_>>) -> io::Result<()>
     ensures { Sends result (W.contents writer.old) (W.contents writer.new) (closing row.now) }
 {
-    match row {
-        Some(_row) => send(writer, b"\n"),
-        None => Ok(()),
-    }
+    send(writer, closing(row))
 }
 
 /// Writes this many empty cells.
@@ -95,7 +102,7 @@ fn send_empty<W: Write>(writer: &mut W, count: u64) -> io::Result<()>
 /// Whether the cell is in the row that is open, behind the cells that are printed of it.
 fn goes_on(row: &Option<OpenRow<'_>>, name: &[u8], index: u32, length: u64) -> bool
     requires { 0 < length }
-    ensures { (value : List ℕ) → result ≡ goes_on row.now (record { name = name.now; index = index; value = value }) length }
+    ensures { result ≡ goes_on row.now name.now index length }
 {
     match row {
         Some(row) => {
@@ -118,17 +125,47 @@ fn printed_of(row: &Option<OpenRow<'_>>) -> u64
 }
 
 /// Writes the beginning of the row in which the cell with this index is.
-fn open<W: Write>(writer: &mut W, name: &[u8], index: u32, length: u64) -> io::Result<()>
+fn send_beginning<W: Write>(writer: &mut W, name: &[u8], index: u32, length: u64) -> io::Result<()>
     requires { 0 < length }
-    ensures { Sends result (W.contents writer.old) (W.contents writer.new) (codes "cells " ++ name.now ++ field (decimal (first_of index length))) }
+    ensures { Sends result (W.contents writer.old) (W.contents writer.new) (beginning name.now index length) }
 {
     let mut digits = Buffer::new();
     let first = digits.format(first_of(index, length)).as_bytes();
     send_all(writer, &[b"cells ", name, b" ", first])
 }
 
-/// Writes the cell in its row: after the row that is open, if it goes on with that, or at the beginning of a row.
-pub(crate) fn send_in_row<W: Write>(
+/// Ends the row that is open, and writes the beginning of the next one.
+fn begin<W: Write>(
+    writer: &mut W,
+    row: &Option<OpenRow<'_>>,
+    name: &[u8],
+    index: u32,
+    length: u64,
+) -> io::Result<()>
+    requires { 0 < length }
+    ensures { Sends result (W.contents writer.old) (W.contents writer.new) (closing row.now ++ beginning name.now index length) }
+{
+    close(writer, row)?;
+    send_beginning(writer, name, index, length)
+}
+
+/// Writes the value after a space.
+fn send_value<W: Write>(writer: &mut W, value: &[u8]) -> io::Result<()>
+    ensures { Sends result (W.contents writer.old) (W.contents writer.new) (field value.now) }
+{
+    send_all(writer, &[b" ", value])
+}
+
+/// Writes the value after this many empty cells.
+fn send_after<W: Write>(writer: &mut W, count: u64, value: &[u8]) -> io::Result<()>
+    ensures { Sends result (W.contents writer.old) (W.contents writer.new) (value_after count value.now) }
+{
+    send_empty(writer, count)?;
+    send_value(writer, value)
+}
+
+/// Writes the cell in a row that begins.
+fn send_first<W: Write>(
     writer: &mut W,
     row: &Option<OpenRow<'_>>,
     name: &[u8],
@@ -138,15 +175,28 @@ pub(crate) fn send_in_row<W: Write>(
 ) -> io::Result<()>
     requires { 0 < length }
     ensures { Sends result (W.contents writer.old) (W.contents writer.new)
-        (row_text row.now (record { name = name.now; index = index; value = value.now }) length) }
+        ((closing row.now ++ beginning name.now index length) ++ value_after (index % length) value.now) }
 {
-    let place = place_of(index, length);
+    begin(writer, row, name, index, length)?;
+    send_after(writer, place_of(index, length), value)
+}
+
+/// Writes the cell in its row: after the row that is open, if it goes on with that, or in a row that begins.
+pub(crate) fn send_in_row<W: Write>(
+    writer: &mut W,
+    row: &Option<OpenRow<'_>>,
+    name: &[u8],
+    index: u32,
+    value: &[u8],
+    length: u64,
+) -> io::Result<()>
+    requires { 0 < length }
+    ensures { Sends result (W.contents writer.old) (W.contents writer.new) (row_text row.now name.now index value.now length) }
+{
     if goes_on(row, name, index, length) {
-        send_empty(writer, place - printed_of(row))?;
+        let count = place_of(index, length).saturating_sub(printed_of(row));
+        send_after(writer, count, value)
     } else {
-        close(writer, row)?;
-        open(writer, name, index, length)?;
-        send_empty(writer, place)?;
+        send_first(writer, row, name, index, value, length)
     }
-    send_all(writer, &[b" ", value])
 }
