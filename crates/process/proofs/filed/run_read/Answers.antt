@@ -12,7 +12,7 @@ returns g c =
     let after = ap contents (sym c.into_parts-writer.ensures.inner) in
     record {
       answers =
-          answers_read c.args.file.now c.args.bytes.now c.input_of-input.result (writer_contents contents c.in_ok-writer.writer) (contents c.args.writer)
+          answers_read c.args.file.now words c.args.bytes.now c.input_of-input.result (writer_contents contents c.in_ok-writer.writer) (contents c.args.writer)
           (contents (writer_inner c.answer_read-outcome.new.writer)) (contents c.into_parts-writer.result.0) c.answer_read-outcome.result before after
           c.input_of-input.ensures c.answer_read-outcome.ensures;
       exit = c.exit_status.ensures;
