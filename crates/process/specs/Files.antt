@@ -78,12 +78,20 @@ abbrev pub ExplainsRead : Account → List (List ℕ) → List ℕ → FileReque
 ExplainsRead accounts words bytes file outcome text =
     (input : List ℕ) × ((input ≡ bytes) ⊎ IsInputOf file.request file.inputs bytes input) × accounts words (Some input) outcome text
 
--- THE PROCESS over the bytes of a file. `old` and `new` are what standard output holds before and after, and `silent` and `spoken` what standard error holds.
+-- WARNINGS on standard error: some lines, or a beginning of them; with `--quiet` none
+abbrev pub Warns : Bool → Option (List ℕ) → Option (List ℕ) → Type 0
+Warns true silent warned = warned ≡ silent
+Warns false silent warned = (lines : List ℕ) × (sent : Result ⊤ Error) × Sends sent silent warned lines
+
+-- THE PROCESS over the bytes of a file. `old` and `new` are what standard output holds before and after, and `silent` and `spoken` what standard error holds:
+-- the warnings, and then the explanation.
 pub record EndsOver (accounts : Account) (words : List (List ℕ)) (file : FileRequest) (bytes : List ℕ) (old new silent spoken : Option (List ℕ))
     (outcome : Option Outcome) (status : ℕ) (hint_sent : HintSent) : Type 0 where
   pub answers : AnswersRead words bytes file old new outcome
   pub exit : status ≡ exits outcome
-  pub explains : Speaks (ExplainsRead accounts words bytes file outcome) silent spoken hint_sent
+  pub warned : Option (List ℕ)
+  pub warns : Warns file.options.quiet silent warned
+  pub explains : Speaks (ExplainsRead accounts words bytes file outcome) warned spoken hint_sent
 
 -- THE PROCESS, where the file was read
 pub record EndsRead (accounts : Account) (has : Folder) (words : List (List ℕ)) (file : FileRequest) (remaining old new silent spoken : Option (List ℕ))

@@ -60,15 +60,16 @@ fn answer_chosen<W: Write, R: Threads + Wait + Sync>(
     ensures { Chosen (λ s o a. PrintsInput request.now input.now s o a) (option_map (λ s. s.now) cells.entry) (option_map (λ s. s.now) grid.entry)
         result (W.contents writer.old) (W.contents writer.new) }
 {
-    let mut text = Vec::new(resources.alloc);
-    match answer_input(request, input, &mut text, resources) {
+    let Resources { alloc, rt, gate } = resources;
+    let mut text = Vec::new(alloc);
+    match answer_input(request, input, &mut text, Resources { alloc, rt, gate }) {
         Ok(outcome) => match write_chosen(writer, cells, grid, &text) {
             Ok(()) => Ok(outcome),
             Err(fault) => Err(fault),
         },
         Err(_refused) => {
             let refused: Result<Vec<u8>, Refusal> = Err(Refusal::Memory);
-            answer_input(request, &refused, writer, resources)
+            answer_input(request, &refused, writer, Resources { alloc, rt, gate })
         }
     }
 }
