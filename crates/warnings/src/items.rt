@@ -29,7 +29,7 @@ fn item_of(names: &[Name<'_>], word: Word<usize>) -> Option<Item> {
     };
     let is_main = names
         .get(warning.name)
-        .is_some_and(|name| name.bytes == b"main");
+        .is_some_and(|name| name.bytes == b"main".as_slice());
     Some(Item {
         warning,
         is_used: is_main,

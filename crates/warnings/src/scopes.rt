@@ -59,14 +59,16 @@ impl<A: Allocator + Clone> Walk<A> {
         self.scopes.push(Scope {
             kind,
             around: self.bindings.len(),
-        })
+        })?;
+        Ok(())
     }
 
     fn bind(&mut self, kind: Kind, name: usize, at: usize) -> Result<(), AllocError> {
         self.bindings.push(Binding {
             warning: Warning { kind, name, at },
             is_used: false,
-        })
+        })?;
+        Ok(())
     }
 
     /// Whether the name would be that of a loop, if the binding at this place were not there.
@@ -150,7 +152,8 @@ impl<A: Allocator + Clone> Walk<A> {
             kind: Kind::Bound,
             name,
             at,
-        })
+        })?;
+        Ok(())
     }
 
     /// A name, or a list of names, begins or ends.
@@ -162,7 +165,10 @@ impl<A: Allocator + Clone> Walk<A> {
                 Ok(())
             }
             Word::Start { at, name } | Word::Bind { at, name } => self.wait(name, at),
-            Word::Let { .. } | Word::Loop { .. } => self.waits.push(self.waiting.len()),
+            Word::Let { .. } | Word::Loop { .. } => {
+                self.waits.push(self.waiting.len())?;
+                Ok(())
+            }
             Word::EndLet { .. } => self.bind_waiting(Kind::Bound),
             _ => Ok(()),
         }

@@ -15,6 +15,7 @@ use std::fmt::{self, Display};
 const SHOWN: usize = 8;
 
 /// A warning as it is shown.
+#[derive(Clone, Copy)]
 struct Shown<'a> {
     kind: Kind,
     name: &'a str,
