@@ -537,7 +537,7 @@ pub fn profile_fault<'a>(
 
 /// What is said of a page that shows this many events.
 pub fn page_fault<'a>(events: u64) -> Option<Found<'a>>
-    ensures { is_some result ≡ nat_lt 200000 events }
+    ensures { is_some result ≡ nat_lt 1000000 events }
 {
-    (events > 200_000).then_some(nowhere("large-page", [""; 2]))
+    (events > 1_000_000).then_some(nowhere("large-page", [""; 2]))
 }
