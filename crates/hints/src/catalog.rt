@@ -177,7 +177,7 @@ options/mean: the options of `ets $1` are --steps N, and with a file --cells A,B
 options/dis: the options of `ets $1` are --literals, at most once
 options/dot: the options of `ets $1` are --code, and with a file --quiet, each at most once
 options/lower: the options of `ets $1` are --map, and with a file --quiet, each at most once
-options/check, compile: the option of `ets $1` is --quiet, with a file, at most once
+options/check, compile: the option of `ets $1` is --quiet, with a file, at most once; it reads a file, `ets $1 FILE`, or standard input, `ets $1 < FILE`
 outer/array: array NAME LEN
 outer/block: block NAME INPUTS OUTPUTS
 outer/main: main NAME
