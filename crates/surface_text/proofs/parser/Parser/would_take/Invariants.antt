@@ -1,4 +1,4 @@
-use Rattle.std.proofs.Common.{◌≡◌, List, All, length, false}
+use Rattle.std.proofs.Common.{◌≡◌, List, All, length}
 use Rattle.source.specs.Tree.{Name}
 use Rattle.law_surface_text.specs.Automaton.{is_taken, would_take, advance}
 use Rattle.law_surface_text.specs.Named.{named_stack}
