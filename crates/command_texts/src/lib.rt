@@ -277,6 +277,7 @@ fn with_report_options<'a>(
         .help("print the full cells of these arrays of FILE in rows of N, with - for an empty one");
     let grid = if has_bad_grid {
         grid.value_parser(ValueParser::Names(&GRID))
+            .hide_possible_values(true)
     } else {
         grid
     };
