@@ -1,7 +1,7 @@
 -- Words, data, listings and graphs have no byte that a page would have to escape.
-use Rattle.std.proofs.Common.{◌≡◌, refl, sym, subst, ℕ, zero, suc, ◌-◌, ◌≤◌, true, false, ℤ, List, [], ◌∷◌, ◌++◌, length, Option}
+use Rattle.std.proofs.Common.{◌≡◌, refl, sym, subst, ℕ, zero, suc, ◌+◌, ◌-◌, ◌≤◌, true, false, ℤ, pos, List, [], ◌∷◌, ◌++◌, length, Option}
 use Rattle.std.proofs.Common.{Some, None}
-use Rattle.std.specs.Prelude.{decimal, codes, flat_map}
+use Rattle.std.specs.Prelude.{decimal, codes, flat_map, ◌-ℤ◌}
 use Rattle.std.specs.List.{list_all}
 use Rattle.tags.specs.declared.value.FaultKind.{FaultKind}
 use Rattle.tags.specs.declared.value.Origin.{Origin}
@@ -33,13 +33,13 @@ use Rattle.disassembler.specs.Listing as list
 use Rattle.disassembler.specs.Listing.{spaces, gap, right_in, left_in, slot_text, port_letter, dest_text, operand_text, instr_line, block_line}
 use Rattle.disassembler.specs.Listing.{block_lines, head_line}
 use Rattle.trace_text.specs.TraceText as trace
-use Rattle.trace_text.specs.TraceText.{kind_word, value_text, cont_text, word_text, deed_text, paired}
+use Rattle.trace_text.specs.TraceText.{kind_word, value_text, cont_text, word_text, paired}
 use Rattle.replay.specs.declared.moment.Deed.{Deed}
 use Rattle.replay.specs.declared.entry.Change.{Change}
 use Rattle.replay.specs.Views.{EntryView, BooksView}
-use Rattle.html_text.specs.DataText.{number_text, last_number_text, last_word_text, number_word_text, numbers_text, token_text, comma, listed_token}
-use Rattle.html_text.specs.DataText.{tokens_text}
-use Rattle.html_text.specs.DataText.{state_text, change_text, line_lead, event_head, event_text, listed_change, changes_text, listed_number, listed_numbers}
+use Rattle.html_text.specs.DataText.{number_text, tagged_word, number_word_text, numbers_text, beyond_text, token_text, semicolon, listed_token}
+use Rattle.html_text.specs.DataText.{tokens_text, deed_letter}
+use Rattle.html_text.specs.DataText.{state_text, change_text, line_lead, event_head, event_text, listed_change, changes_text, comma, listed_number, listed_numbers}
 use Rattle.html_text.specs.DataText.{size_text, before_text, start_text, data_text}
 use Rattle.html_text.specs.Plain.{IsPlain, IsInert, IsQuotable, WordsAreQuotable, DataIsInert, ListingsArePlain, GraphsArePlain}
 use Rattle.html_text.proofs.Bytes.{plain, inert, quotable, Passing, joined, join_all, all_from, all_numbered, all_paired, all_each, lift, plain_means}
@@ -88,110 +88,111 @@ word_quotable (Word.Back c) = cont_quotable c
 pub words : WordsAreQuotable
 words w = all_from quotable IsQuotable quotable_means (word_text w) (word_quotable w)
 
--- DATA
+-- DATA. What stands between the quotation marks of its strings:
+letter_quotable : (d : Deed) → Quotable (deed_letter d)
+letter_quotable Deed.Waited = refl
+letter_quotable Deed.Fired = refl
+letter_quotable Deed.Answered = refl
+letter_quotable Deed.Deferred = refl
+letter_quotable Deed.Stored = refl
+letter_quotable Deed.Served = refl
+letter_quotable Deed.Given = refl
+letter_quotable Deed.Queued = refl
+letter_quotable Deed.Freed = refl
+letter_quotable Deed.HandedOn = refl
+letter_quotable Deed.Arrived = refl
+
+number_quotable : (tag : List ℕ) (n : ℕ) → Quotable tag → Quotable (number_text tag n)
+number_quotable tag n t = quotables (tag, t) ((decimal n, number n) ∷ [])
+
+tagged_quotable : (tag : List ℕ) (w : Word) → Quotable tag → Quotable (tagged_word tag w)
+tagged_quotable tag w t = quotables (tag, t) ((word_text w, word_quotable w) ∷ [])
+
+number_word_quotable : (tag : List ℕ) (n : ℕ) (w : Word) → Quotable tag → Quotable (number_word_text tag n w)
+number_word_quotable tag n w t = quotables (number_text tag n, number_quotable tag n t)
+    ((tagged_word (codes ":") w, tagged_quotable (codes ":") w refl) ∷ [])
+
+numbers_quotable : (tag : List ℕ) (n m : ℕ) → Quotable tag → Quotable (numbers_text tag n m)
+numbers_quotable tag n m t = quotables (number_text tag n, number_quotable tag n t)
+    ((number_text (codes ",") m, number_quotable (codes ",") m refl) ∷ [])
+
+token_quotable : (t : To) (w : Word) → Quotable (token_text t w)
+token_quotable (To.Instr f ip port) w = quotables (numbers_text (port_letter port) f ip, numbers_quotable (port_letter port) f ip (port_quotable port))
+    ((tagged_word (codes ":") w, tagged_quotable (codes ":") w refl) ∷ [])
+token_quotable (To.Fetch x) w = number_word_quotable (codes "f") x w refl
+token_quotable (To.Store x v) w = quotables (number_word_text (codes "s") x (Word.Val v), number_word_quotable (codes "s") x (Word.Val v) refl)
+    ((tagged_word (codes ":") w, tagged_quotable (codes ":") w refl) ∷ [])
+token_quotable To.Manager w = tagged_quotable (codes "q:") w refl
+token_quotable (To.Release f) w = number_quotable (codes "b") f refl
+token_quotable (To.Host j) w = number_word_quotable (codes "h") j w refl
+
+semicolon_quotable : (n : ℕ) → Quotable (semicolon n)
+semicolon_quotable zero = refl
+semicolon_quotable (suc n) = refl
+
+tokens_quotable : (ts : List Token) → Quotable (tokens_text ts)
+tokens_quotable ts = all_numbered quotable listed_token (λ n t. quotables (semicolon n, semicolon_quotable n)
+    ((token_text t.to t.word, token_quotable t.to t.word) ∷ [])) 0 ts
+
+state_quotable : (s : SlotState) → Quotable (state_text s)
+state_quotable SlotState.Empty = refl
+state_quotable (SlotState.Left w) = tagged_quotable (codes "l:") w refl
+state_quotable (SlotState.Right w) = tagged_quotable (codes "r:") w refl
+state_quotable (SlotState.Credits n) = number_quotable (codes "c") n refl
+state_quotable (SlotState.Waiter c) = tagged_quotable (codes "w:") (Word.Back c) refl
+state_quotable (SlotState.Draining n) = number_quotable (codes "d") n refl
+
+change_quotable : (c : Change) → Quotable (change_text c)
+change_quotable Change.Nothing = refl
+change_quotable (Change.Slot f r v) = quotables (numbers_text (codes "s") f r, numbers_quotable (codes "s") f r refl) ((state_text v, state_quotable v) ∷ [])
+change_quotable (Change.Reader x c) = number_word_quotable (codes "+") x (Word.Back c) refl
+change_quotable (Change.Filled x v) = number_word_quotable (codes "v") x (Word.Val v) refl
+change_quotable (Change.Out f) = number_quotable (codes "o") f refl
+change_quotable (Change.Free f) = number_quotable (codes "f") f refl
+change_quotable (Change.Queued c) = tagged_quotable (codes "q:") (Word.Back c) refl
+change_quotable (Change.Handed f) = number_quotable (codes "h") f refl
+change_quotable (Change.Output j v) = number_word_quotable (codes "p") j (Word.Val v) refl
+change_quotable (Change.Done j w) = number_word_quotable (codes "p") j w refl
+
+beyond_quotable : (d : Deed) (k m : ℕ) → Quotable (beyond_text (deed_letter d) k m)
+beyond_quotable d k m = quotables (deed_letter d, letter_quotable d) ((literal (pos k -ℤ pos m), integer (pos k -ℤ pos m)) ∷ [])
+
+-- and all of it, with the quotation marks
 inerts : (first : Passing inert) (pieces : List (Passing inert)) → Inert (joined inert first.0 pieces)
 inerts = join_all inert
 
-num : (n : ℕ) → Inert (decimal n)
-num n = lift quotable inert quotable_inert (decimal n) (number n)
-
-wrd : (w : Word) → Inert (word_text w)
-wrd w = lift quotable inert quotable_inert (word_text w) (word_quotable w)
-
-ltr : (p : Port) → Inert (port_letter p)
-ltr p = lift quotable inert quotable_inert (port_letter p) (port_quotable p)
+of : (xs : List ℕ) → Quotable xs → Inert xs
+of xs q = lift quotable inert quotable_inert xs q
 
 number_inert : (tag : List ℕ) (n : ℕ) → Inert tag → Inert (number_text tag n)
-number_inert tag n t = inerts (tag, t) ((decimal n, num n) ∷ [])
-
-last_number_inert : (tag : List ℕ) (n : ℕ) → Inert tag → Inert (last_number_text tag n)
-last_number_inert tag n t = inerts (tag, t) ((decimal n, num n) ∷ (codes "]", refl) ∷ [])
-
-last_word_inert : (tag : List ℕ) (w : Word) → Inert tag → Inert (last_word_text tag w)
-last_word_inert tag w t = inerts (tag, t) ((word_text w, wrd w) ∷ (codes "\"]", refl) ∷ [])
-
-number_word_inert : (tag : List ℕ) (n : ℕ) (w : Word) → Inert tag → Inert (number_word_text tag n w)
-number_word_inert tag n w t = inerts (number_text tag n, number_inert tag n t) ((last_word_text (codes ",\"") w, last_word_inert (codes ",\"") w refl) ∷ [])
-
-numbers_inert : (tag : List ℕ) (n m : ℕ) → Inert tag → Inert (numbers_text tag n m)
-numbers_inert tag n m t = inerts (number_text tag n, number_inert tag n t) ((number_text (codes ",") m, number_inert (codes ",") m refl) ∷ [])
-
-token_inert : (t : To) (w : Word) → Inert (token_text t w)
-token_inert (To.Instr f ip port) w = inerts (numbers_text (codes "[\"i\",") f ip, numbers_inert (codes "[\"i\",") f ip refl)
-    ((codes ",\"" ++ port_letter port, ltr port) ∷ (last_word_text (codes "\",\"") w, last_word_inert (codes "\",\"") w refl) ∷ [])
-token_inert (To.Fetch x) w = number_word_inert (codes "[\"r\",") x w refl
-token_inert (To.Store x v) w = inerts (number_text (codes "[\"w\",") x, number_inert (codes "[\"w\",") x refl)
-    ((codes ",\"", refl) ∷ (word_text (Word.Val v), wrd (Word.Val v)) ∷ (last_word_text (codes "\",\"") w, last_word_inert (codes "\",\"") w refl) ∷ [])
-token_inert To.Manager w = last_word_inert (codes "[\"q\",\"") w refl
-token_inert (To.Release f) w = last_number_inert (codes "[\"b\",") f refl
-token_inert (To.Host j) w = number_word_inert (codes "[\"h\",") j w refl
-
-comma_inert : (n : ℕ) → Inert (comma n)
-comma_inert zero = refl
-comma_inert (suc n) = refl
-
-tokens_inert : (ts : List Token) → Inert (tokens_text ts)
-tokens_inert ts = all_numbered inert listed_token (λ n t. inerts (comma n, comma_inert n) ((token_text t.to t.word, token_inert t.to t.word) ∷ [])) 0 ts
-
-state_inert : (s : SlotState) → Inert (state_text s)
-state_inert SlotState.Empty = refl
-state_inert (SlotState.Left w) = last_word_inert (codes "[\"l\",\"") w refl
-state_inert (SlotState.Right w) = last_word_inert (codes "[\"r\",\"") w refl
-state_inert (SlotState.Credits n) = last_number_inert (codes "[\"c\",") n refl
-state_inert (SlotState.Waiter c) = last_word_inert (codes "[\"w\",\"") (Word.Back c) refl
-state_inert (SlotState.Draining n) = last_number_inert (codes "[\"d\",") n refl
-
-change_inert : (c : Change) → Inert (change_text c)
-change_inert Change.Nothing = refl
-change_inert (Change.Slot f r v) = inerts (numbers_text (codes "[\"s\",") f r, numbers_inert (codes "[\"s\",") f r refl)
-    ((codes ",", refl) ∷ (state_text v, state_inert v) ∷ (codes "]", refl) ∷ [])
-change_inert (Change.Reader x c) = number_word_inert (codes "[\"+\",") x (Word.Back c) refl
-change_inert (Change.Filled x v) = number_word_inert (codes "[\"v\",") x (Word.Val v) refl
-change_inert (Change.Out f) = last_number_inert (codes "[\"o\",") f refl
-change_inert (Change.Free f) = last_number_inert (codes "[\"f\",") f refl
-change_inert (Change.Queued c) = last_word_inert (codes "[\"q\",\"") (Word.Back c) refl
-change_inert (Change.Handed f) = last_number_inert (codes "[\"h\",") f refl
-change_inert (Change.Output j v) = number_word_inert (codes "[\"p\",") j (Word.Val v) refl
-change_inert (Change.Done j w) = number_word_inert (codes "[\"p\",") j w refl
+number_inert tag n t = inerts (tag, t) ((decimal n, of (decimal n) (number n)) ∷ [])
 
 lead_inert : (n : ℕ) → Inert (line_lead n)
 lead_inert zero = refl
 lead_inert (suc n) = refl
 
-deed_inert : (d : Deed) → Inert (deed_text d)
-deed_inert Deed.Waited = refl
-deed_inert Deed.Fired = refl
-deed_inert Deed.Answered = refl
-deed_inert Deed.Deferred = refl
-deed_inert Deed.Stored = refl
-deed_inert Deed.Served = refl
-deed_inert Deed.Given = refl
-deed_inert Deed.Queued = refl
-deed_inert Deed.Freed = refl
-deed_inert Deed.HandedOn = refl
-deed_inert Deed.Arrived = refl
+comma_inert : (n : ℕ) → Inert (comma n)
+comma_inert zero = refl
+comma_inert (suc n) = refl
 
-head_inert : (n e k : ℕ) (d : Deed) → Inert (event_head n e k d)
-head_inert n e k d =
-    let lead : Inert (line_lead n ++ number_text (codes "[") e) =
-    inerts (line_lead n, lead_inert n) ((number_text (codes "[") e, number_inert (codes "[") e refl) ∷ []) in
-    inerts (line_lead n ++ number_text (codes "[") e, lead)
-    ((number_text (codes ",") k, number_inert (codes ",") k refl) ∷ (codes ",\"" ++ deed_text d, deed_inert d) ∷ [])
-
-event_inert : (n : ℕ) (ev : ℕ × Token) (x : EntryView) → Inert (event_text n ev x)
-event_inert n ev x = inerts (event_head n ev.0 x.number x.deed, head_inert n ev.0 x.number x.deed)
-    ((codes "\",", refl) ∷ (change_text x.change, change_inert x.change) ∷ (codes ",[", refl) ∷ (tokens_text x.made, tokens_inert x.made) ∷
-    (codes "]]", refl) ∷ [])
+event_inert : (first n : ℕ) (ev : ℕ × Token) (x : EntryView) → Inert (event_text first n ev x)
+event_inert first n ev x =
+    let taken : List ℕ = beyond_text (deed_letter x.deed) x.number (first + n) in
+    let head : Inert (event_head first n ev.0 x.number x.deed) = inerts (number_text (line_lead n) ev.0, number_inert (line_lead n) ev.0 (lead_inert n))
+    ((taken, of taken (beyond_quotable x.deed x.number (first + n))) ∷ []) in
+    inerts (event_head first n ev.0 x.number x.deed, head) ((codes ";", refl) ∷ (change_text x.change, of (change_text x.change) (change_quotable x.change)) ∷
+    (codes ";", refl) ∷ (tokens_text x.made, of (tokens_text x.made) (tokens_quotable x.made)) ∷ (codes "\"", refl) ∷ [])
 
 changes_inert : (cs : List Change) → Inert (changes_text cs)
-changes_inert cs = all_numbered inert listed_change (λ n c. inerts (line_lead n, lead_inert n) ((change_text c, change_inert c) ∷ [])) 0 cs
+changes_inert cs = all_numbered inert listed_change (λ n c. inerts (line_lead n, lead_inert n)
+    ((change_text c, of (change_text c) (change_quotable c)) ∷ (codes "\"", refl) ∷ [])) 0 cs
 
 listed_inert : (ns : List ℕ) → Inert (listed_numbers ns)
 listed_inert ns = all_numbered inert listed_number (λ n k. number_inert (comma n) k (comma_inert n)) 0 ns
 
 size_inert : (elements frames first : ℕ) → Inert (size_text elements frames first)
 size_inert elements frames first =
-    inerts (number_text (codes "{\"format\":1,\"elements\":") elements, number_inert (codes "{\"format\":1,\"elements\":") elements refl)
+    inerts (number_text (codes "{\"format\":2,\"elements\":") elements, number_inert (codes "{\"format\":2,\"elements\":") elements refl)
     ((number_text (codes ",\"frames\":") frames, number_inert (codes ",\"frames\":") frames refl) ∷
     (number_text (codes ",\"first\":") first, number_inert (codes ",\"first\":") first refl) ∷ [])
 
@@ -200,13 +201,13 @@ before_inert b = inerts (codes ",\"out\":[0],\"changes\":[", refl) ((changes_tex
     (number_text (codes "],\"next\":") b.next, number_inert (codes "],\"next\":") b.next refl) ∷ [])
 
 start_inert : (b : BooksView) → Inert (start_text b)
-start_inert b = inerts (codes ",\"numbers\":[", refl) ((listed_numbers b.numbers, listed_inert b.numbers) ∷ (codes "],\"start\":[", refl) ∷
-    (tokens_text b.tokens, tokens_inert b.tokens) ∷ [])
+start_inert b = inerts (codes ",\"numbers\":[", refl) ((listed_numbers b.numbers, listed_inert b.numbers) ∷ (codes "],\"start\":\"", refl) ∷
+    (tokens_text b.tokens, of (tokens_text b.tokens) (tokens_quotable b.tokens)) ∷ [])
 
 all_inert : (elements frames first : ℕ) (events : Events) (b : BooksView) → Inert (data_text elements frames first events b)
 all_inert elements frames first events b = inerts (size_text elements frames first, size_inert elements frames first)
-    ((before_text b, before_inert b) ∷ (start_text b, start_inert b) ∷ (codes "],\"events\":[", refl) ∷
-    (paired event_text 0 events b.entries, all_paired inert event_text event_inert 0 events b.entries) ∷ (codes "\n]}", refl) ∷ [])
+    ((before_text b, before_inert b) ∷ (start_text b, start_inert b) ∷ (codes "\",\"events\":[", refl) ∷
+    (paired (event_text first) 0 events b.entries, all_paired inert (event_text first) (event_inert first) 0 events b.entries) ∷ (codes "\n]}", refl) ∷ [])
 
 pub data_inert : DataIsInert
 data_inert elements frames first events books = all_from inert IsInert inert_means (data_text elements frames first events books)

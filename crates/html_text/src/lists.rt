@@ -54,12 +54,14 @@ function something(w) {  // what these words name
   if (m && m[1] === 'output') return {name: w, has: n => TYPE[TAKES[n]] === HOST && TO[TAKES[n]] === k};
   if (/^\d+\.\d+$/.test(w)) return BLOCKS[m[1]] && BLOCKS[m[1]].code[k] ? ofInstruction(BLOCKS[m[1]].first + k) : null;
   if (HELP[w] || CODE.some(i => i.name === w)) return {name: w, has: n => ipOf(n) >= 0 && name(ipOf(n)) === w};
-  return /^-?\d+$/.test(w) ? {name: 'the value ' + w, text: '"' + w + '"'} : /^fault/.test(w) ? {name: w, text: '"' + w} : null;
+  return /^-?\d+$/.test(w) ? {name: 'the value ' + w, text: ':' + w} : /^fault/.test(w) ? {name: w, text: ':' + w, open: true} : null;
 }
 function seek(of, n, by) {  // the first event of it from event n on, upwards or downwards; -1 where there is none
   if (n < 0 || n >= N) return -1;
   if (!of.text) { while (n >= 0 && n < N && !of.has(n)) n += by; return n < N ? n : -1; }
-  const k = by > 0 ? TEXT.indexOf(of.text, LINE[K + n]) : TEXT.lastIndexOf(of.text, LINE[K + n + 1] - 1);
+  let k = by > 0 ? LINE[K + n] : LINE[K + n + 1] - 4;
+  do k = by > 0 ? TEXT.indexOf(of.text, k + 1) : k > 0 ? TEXT.lastIndexOf(of.text, k - 1) : -1;
+  while (k >= 0 && !of.open && !/[;:"]/.test(TEXT[k + of.text.length]));
   let a = 0, b = N - 1;
   while (a < b) { const m = (a + b + 1) >> 1; if (LINE[K + m] <= k) a = m; else b = m - 1; }
   return k < LINE[K] ? -1 : a;
@@ -95,7 +97,7 @@ function nextOf(n, by) { n += by; while (n >= 0 && n < N && isQuiet(n)) n += by;
 function step(by) { pause(); go(nextOf(pos, by)); }
 function doing(n) { const t = takenBy(n); return t[0] === 'i' ? name(t[2]) + ' (' + at(t[2]) + '), frame ' + t[1] : whereTo(t, -1); }
 function lists(n, s, pool, f) {
-  const c = n < 0 ? null : eventOf(n)[3], t0 = n < 0 ? -1 : TAKES[n], hit = k => c && c[0] === 's' && skey(c[1], c[2]) === k;
+  const c = n < 0 ? null : changeOf(K + n), t0 = n < 0 ? -1 : TAKES[n], hit = k => c && c[0] === 's' && skey(c[1], c[2]) === k;
   const asked = (c, text) => c < K ? el('span', {class: 'chip wait'}, text) : tokButton(TAKES[c - K], 'wait', text);
   const outs = [];
   for (let p = 0; p <= BLOCKS[MAIN].outs; p++) {
