@@ -1,8 +1,10 @@
 -- Words, data, listings and graphs have no byte that a page would have to escape.
-use Rattle.std.proofs.Common.{◌≡◌, refl, sym, subst, ℕ, zero, suc, ◌+◌, ◌-◌, ◌≤◌, true, false, ℤ, pos, List, [], ◌∷◌, ◌++◌, length, Option}
+use Rattle.std.proofs.Common.{◌≡◌, refl, sym, ap, ◌∙◌, subst, ℕ, zero, suc, ◌+◌, ◌-◌, ◌≤◌, true, false, ℤ, pos, List, [], ◌∷◌, ◌++◌, length, Option}
 use Rattle.std.proofs.Common.{Some, None}
 use Rattle.std.specs.Prelude.{decimal, codes, flat_map, ◌-ℤ◌}
+use Rattle.std.specs.Prelude.{All}
 use Rattle.std.specs.List.{list_all}
+use Rattle.std.proofs.lemmas.List.{append_assoc}
 use Rattle.tags.specs.declared.value.FaultKind.{FaultKind}
 use Rattle.tags.specs.declared.value.Origin.{Origin}
 use Rattle.tags.specs.declared.value.Value.{Value}
@@ -41,13 +43,20 @@ use Rattle.html_text.specs.DataText.{number_text, tagged_word, number_word_text,
 use Rattle.html_text.specs.DataText.{tokens_text, deed_letter}
 use Rattle.html_text.specs.DataText.{state_text, change_text, line_lead, event_head, event_text, listed_change, changes_text, comma, listed_number, listed_numbers}
 use Rattle.html_text.specs.DataText.{size_text, before_text, start_text, data_text}
-use Rattle.html_text.specs.Plain.{IsPlain, IsInert, IsQuotable, WordsAreQuotable, DataIsInert, ListingsArePlain, GraphsArePlain}
-use Rattle.html_text.proofs.Bytes.{plain, inert, quotable, Passing, joined, join_all, all_from, all_numbered, all_paired, all_each, lift, plain_means}
-use Rattle.html_text.proofs.Bytes.{inert_means, quotable_means}
-use Rattle.html_text.proofs.Bytes.{quotable_plain, quotable_inert, name_plain, number, integer}
+use Rattle.html_text.specs.Plain.{IsPlain, IsInert, IsQuotable, IsInPart, IsInWord, WordsAreWhole, PartsAreWhole, StringsAreQuotable, DataIsInert}
+use Rattle.html_text.specs.Plain.{ListingsArePlain, GraphsArePlain}
+use Rattle.html_text.proofs.Bytes.{plain, inert, quotable, in_part, in_word, Passing, joined, join_all, all_from, all_numbered, all_paired, all_each, lift, plain_means}
+use Rattle.html_text.proofs.Bytes.{inert_means, quotable_means, in_part_means, in_word_means}
+use Rattle.html_text.proofs.Bytes.{word_part, part_quotable, word_plain, quotable_inert, name_plain, number, integer}
 
 abbrev pub Quotable : List ℕ → Type 0
 Quotable xs = list_all quotable xs ≡ true
+
+abbrev pub InPart : List ℕ → Type 0
+InPart xs = list_all in_part xs ≡ true
+
+abbrev pub InWord : List ℕ → Type 0
+InWord xs = list_all in_word xs ≡ true
 
 abbrev pub Plain : List ℕ → Type 0
 Plain xs = list_all plain xs ≡ true
@@ -56,75 +65,119 @@ abbrev pub Inert : List ℕ → Type 0
 Inert xs = list_all inert xs ≡ true
 
 -- WORDS
+in_words : (first : Passing in_word) (pieces : List (Passing in_word)) → InWord (joined in_word first.0 pieces)
+in_words = join_all in_word
+
+port_word : (p : Port) → InWord (port_letter p)
+port_word Port.Left = refl
+port_word Port.Right = refl
+
+kind_is_word : (k : FaultKind) → InWord (kind_word k)
+kind_is_word FaultKind.Zero = refl
+kind_is_word FaultKind.Range = refl
+
+origin_word : (o : Origin) → InWord (trace.origin_text o)
+origin_word Origin.Untold = refl
+origin_word (Origin.At b n) = in_words (codes " at", refl) ((field (decimal b), number b) ∷ (field (decimal n), number n) ∷ [])
+
+value_word : (v : Value) → InWord (value_text v)
+value_word (Value.Int z) = integer z
+value_word (Value.Fault k o) = in_words (codes "fault", refl) ((field (kind_word k), kind_is_word k) ∷ (trace.origin_text o, origin_word o) ∷ [])
+
+cont_word : (c : Cont) → InWord (cont_text c)
+cont_word (Cont.Frame f ip p) = in_words (codes "to", refl) ((field (decimal f), number f) ∷ (field (decimal ip), number ip) ∷
+    (field (port_letter p), port_word p) ∷ [])
+cont_word (Cont.Host j) = in_words (codes "to host", refl) ((field (decimal j), number j) ∷ [])
+
+word_is_word : (w : Word) → InWord (word_text w)
+word_is_word (Word.Val v) = value_word v
+word_is_word (Word.Frame f) = in_words (codes "frame", refl) ((field (decimal f), number f) ∷ [])
+word_is_word (Word.Back c) = cont_word c
+
+pub words : WordsAreWhole
+words w = all_from in_word IsInWord in_word_means (word_text w) (word_is_word w)
+
+-- DATA. The parts of its strings
+in_parts : (first : Passing in_part) (pieces : List (Passing in_part)) → InPart (joined in_part first.0 pieces)
+in_parts = join_all in_part
+
+of_word : (xs : List ℕ) → InWord xs → InPart xs
+of_word xs q = lift in_word in_part word_part xs q
+
+letter_part : (d : Deed) → InPart (deed_letter d)
+letter_part Deed.Waited = refl
+letter_part Deed.Fired = refl
+letter_part Deed.Answered = refl
+letter_part Deed.Deferred = refl
+letter_part Deed.Stored = refl
+letter_part Deed.Served = refl
+letter_part Deed.Given = refl
+letter_part Deed.Queued = refl
+letter_part Deed.Freed = refl
+letter_part Deed.HandedOn = refl
+letter_part Deed.Arrived = refl
+
+number_part : (tag : List ℕ) (n : ℕ) → InPart tag → InPart (number_text tag n)
+number_part tag n t = in_parts (tag, t) ((decimal n, of_word (decimal n) (number n)) ∷ [])
+
+tagged_part : (tag : List ℕ) (w : Word) → InPart tag → InPart (tagged_word tag w)
+tagged_part tag w t = in_parts (tag, t) ((word_text w, of_word (word_text w) (word_is_word w)) ∷ [])
+
+number_word_part : (tag : List ℕ) (n : ℕ) (w : Word) → InPart tag → InPart (number_word_text tag n w)
+number_word_part tag n w t = in_parts (number_text tag n, number_part tag n t)
+    ((tagged_word (codes ":") w, tagged_part (codes ":") w refl) ∷ [])
+
+numbers_part : (tag : List ℕ) (n m : ℕ) → InPart tag → InPart (numbers_text tag n m)
+numbers_part tag n m t = in_parts (number_text tag n, number_part tag n t)
+    ((number_text (codes ",") m, number_part (codes ",") m refl) ∷ [])
+
+token_part : (t : To) (w : Word) → InPart (token_text t w)
+token_part (To.Instr f ip port) w = in_parts (numbers_text (port_letter port) f ip, numbers_part (port_letter port) f ip (of_word (port_letter port) (port_word port)))
+    ((tagged_word (codes ":") w, tagged_part (codes ":") w refl) ∷ [])
+token_part (To.Fetch x) w = number_word_part (codes "f") x w refl
+token_part (To.Store x v) w = in_parts (number_word_text (codes "s") x (Word.Val v), number_word_part (codes "s") x (Word.Val v) refl)
+    ((tagged_word (codes ":") w, tagged_part (codes ":") w refl) ∷ [])
+token_part To.Manager w = tagged_part (codes "q:") w refl
+token_part (To.Release f) w = number_part (codes "b") f refl
+token_part (To.Host j) w = number_word_part (codes "h") j w refl
+
+state_part : (s : SlotState) → InPart (state_text s)
+state_part SlotState.Empty = refl
+state_part (SlotState.Left w) = tagged_part (codes "l:") w refl
+state_part (SlotState.Right w) = tagged_part (codes "r:") w refl
+state_part (SlotState.Credits n) = number_part (codes "c") n refl
+state_part (SlotState.Waiter c) = tagged_part (codes "w:") (Word.Back c) refl
+state_part (SlotState.Draining n) = number_part (codes "d") n refl
+
+change_part : (c : Change) → InPart (change_text c)
+change_part Change.Nothing = refl
+change_part (Change.Slot f r v) = in_parts (numbers_text (codes "s") f r, numbers_part (codes "s") f r refl) ((state_text v, state_part v) ∷ [])
+change_part (Change.Reader x c) = number_word_part (codes "+") x (Word.Back c) refl
+change_part (Change.Filled x v) = number_word_part (codes "v") x (Word.Val v) refl
+change_part (Change.Out f) = number_part (codes "o") f refl
+change_part (Change.Free f) = number_part (codes "f") f refl
+change_part (Change.Queued c) = tagged_part (codes "q:") (Word.Back c) refl
+change_part (Change.Handed f) = number_part (codes "h") f refl
+change_part (Change.Output j v) = number_word_part (codes "p") j (Word.Val v) refl
+change_part (Change.Done j w) = number_word_part (codes "p") j w refl
+
+beyond_part : (d : Deed) (k m : ℕ) → InPart (beyond_text (deed_letter d) k m)
+beyond_part d k m = in_parts (deed_letter d, letter_part d) ((literal (pos k -ℤ pos m), of_word (literal (pos k -ℤ pos m)) (integer (pos k -ℤ pos m))) ∷ [])
+
+head_part : (e : ℕ) (d : Deed) (k m : ℕ) → InPart (decimal e ++ beyond_text (deed_letter d) k m)
+head_part e d k m = in_parts (decimal e, of_word (decimal e) (number e)) ((beyond_text (deed_letter d) k m, beyond_part d k m) ∷ [])
+
+pub parts : PartsAreWhole
+parts = (λ e d k m. all_from in_part IsInPart in_part_means (decimal e ++ beyond_text (deed_letter d) k m) (head_part e d k m),
+    λ c. all_from in_part IsInPart in_part_means (change_text c) (change_part c),
+    λ t. all_from in_part IsInPart in_part_means (token_text t.to t.word) (token_part t.to t.word))
+
+-- what stands between the quotation marks
 quotables : (first : Passing quotable) (pieces : List (Passing quotable)) → Quotable (joined quotable first.0 pieces)
 quotables = join_all quotable
 
-port_quotable : (p : Port) → Quotable (port_letter p)
-port_quotable Port.Left = refl
-port_quotable Port.Right = refl
-
-kind_quotable : (k : FaultKind) → Quotable (kind_word k)
-kind_quotable FaultKind.Zero = refl
-kind_quotable FaultKind.Range = refl
-
-origin_quotable : (o : Origin) → Quotable (trace.origin_text o)
-origin_quotable Origin.Untold = refl
-origin_quotable (Origin.At b n) = quotables (codes " at", refl) ((field (decimal b), number b) ∷ (field (decimal n), number n) ∷ [])
-
-value_quotable : (v : Value) → Quotable (value_text v)
-value_quotable (Value.Int z) = integer z
-value_quotable (Value.Fault k o) = quotables (codes "fault", refl) ((field (kind_word k), kind_quotable k) ∷ (trace.origin_text o, origin_quotable o) ∷ [])
-
-cont_quotable : (c : Cont) → Quotable (cont_text c)
-cont_quotable (Cont.Frame f ip p) = quotables (codes "to", refl) ((field (decimal f), number f) ∷ (field (decimal ip), number ip) ∷
-    (field (port_letter p), port_quotable p) ∷ [])
-cont_quotable (Cont.Host j) = quotables (codes "to host", refl) ((field (decimal j), number j) ∷ [])
-
-word_quotable : (w : Word) → Quotable (word_text w)
-word_quotable (Word.Val v) = value_quotable v
-word_quotable (Word.Frame f) = quotables (codes "frame", refl) ((field (decimal f), number f) ∷ [])
-word_quotable (Word.Back c) = cont_quotable c
-
-pub words : WordsAreQuotable
-words w = all_from quotable IsQuotable quotable_means (word_text w) (word_quotable w)
-
--- DATA. What stands between the quotation marks of its strings:
-letter_quotable : (d : Deed) → Quotable (deed_letter d)
-letter_quotable Deed.Waited = refl
-letter_quotable Deed.Fired = refl
-letter_quotable Deed.Answered = refl
-letter_quotable Deed.Deferred = refl
-letter_quotable Deed.Stored = refl
-letter_quotable Deed.Served = refl
-letter_quotable Deed.Given = refl
-letter_quotable Deed.Queued = refl
-letter_quotable Deed.Freed = refl
-letter_quotable Deed.HandedOn = refl
-letter_quotable Deed.Arrived = refl
-
-number_quotable : (tag : List ℕ) (n : ℕ) → Quotable tag → Quotable (number_text tag n)
-number_quotable tag n t = quotables (tag, t) ((decimal n, number n) ∷ [])
-
-tagged_quotable : (tag : List ℕ) (w : Word) → Quotable tag → Quotable (tagged_word tag w)
-tagged_quotable tag w t = quotables (tag, t) ((word_text w, word_quotable w) ∷ [])
-
-number_word_quotable : (tag : List ℕ) (n : ℕ) (w : Word) → Quotable tag → Quotable (number_word_text tag n w)
-number_word_quotable tag n w t = quotables (number_text tag n, number_quotable tag n t)
-    ((tagged_word (codes ":") w, tagged_quotable (codes ":") w refl) ∷ [])
-
-numbers_quotable : (tag : List ℕ) (n m : ℕ) → Quotable tag → Quotable (numbers_text tag n m)
-numbers_quotable tag n m t = quotables (number_text tag n, number_quotable tag n t)
-    ((number_text (codes ",") m, number_quotable (codes ",") m refl) ∷ [])
-
-token_quotable : (t : To) (w : Word) → Quotable (token_text t w)
-token_quotable (To.Instr f ip port) w = quotables (numbers_text (port_letter port) f ip, numbers_quotable (port_letter port) f ip (port_quotable port))
-    ((tagged_word (codes ":") w, tagged_quotable (codes ":") w refl) ∷ [])
-token_quotable (To.Fetch x) w = number_word_quotable (codes "f") x w refl
-token_quotable (To.Store x v) w = quotables (number_word_text (codes "s") x (Word.Val v), number_word_quotable (codes "s") x (Word.Val v) refl)
-    ((tagged_word (codes ":") w, tagged_quotable (codes ":") w refl) ∷ [])
-token_quotable To.Manager w = tagged_quotable (codes "q:") w refl
-token_quotable (To.Release f) w = number_quotable (codes "b") f refl
-token_quotable (To.Host j) w = number_word_quotable (codes "h") j w refl
+of_part : (xs : List ℕ) → InPart xs → Quotable xs
+of_part xs q = lift in_part quotable part_quotable xs q
 
 semicolon_quotable : (n : ℕ) → Quotable (semicolon n)
 semicolon_quotable zero = refl
@@ -132,30 +185,32 @@ semicolon_quotable (suc n) = refl
 
 tokens_quotable : (ts : List Token) → Quotable (tokens_text ts)
 tokens_quotable ts = all_numbered quotable listed_token (λ n t. quotables (semicolon n, semicolon_quotable n)
-    ((token_text t.to t.word, token_quotable t.to t.word) ∷ [])) 0 ts
-
-state_quotable : (s : SlotState) → Quotable (state_text s)
-state_quotable SlotState.Empty = refl
-state_quotable (SlotState.Left w) = tagged_quotable (codes "l:") w refl
-state_quotable (SlotState.Right w) = tagged_quotable (codes "r:") w refl
-state_quotable (SlotState.Credits n) = number_quotable (codes "c") n refl
-state_quotable (SlotState.Waiter c) = tagged_quotable (codes "w:") (Word.Back c) refl
-state_quotable (SlotState.Draining n) = number_quotable (codes "d") n refl
+    ((token_text t.to t.word, of_part (token_text t.to t.word) (token_part t.to t.word)) ∷ [])) 0 ts
 
 change_quotable : (c : Change) → Quotable (change_text c)
-change_quotable Change.Nothing = refl
-change_quotable (Change.Slot f r v) = quotables (numbers_text (codes "s") f r, numbers_quotable (codes "s") f r refl) ((state_text v, state_quotable v) ∷ [])
-change_quotable (Change.Reader x c) = number_word_quotable (codes "+") x (Word.Back c) refl
-change_quotable (Change.Filled x v) = number_word_quotable (codes "v") x (Word.Val v) refl
-change_quotable (Change.Out f) = number_quotable (codes "o") f refl
-change_quotable (Change.Free f) = number_quotable (codes "f") f refl
-change_quotable (Change.Queued c) = tagged_quotable (codes "q:") (Word.Back c) refl
-change_quotable (Change.Handed f) = number_quotable (codes "h") f refl
-change_quotable (Change.Output j v) = number_word_quotable (codes "p") j (Word.Val v) refl
-change_quotable (Change.Done j w) = number_word_quotable (codes "p") j w refl
+change_quotable c = of_part (change_text c) (change_part c)
 
-beyond_quotable : (d : Deed) (k m : ℕ) → Quotable (beyond_text (deed_letter d) k m)
-beyond_quotable d k m = quotables (deed_letter d, letter_quotable d) ((literal (pos k -ℤ pos m), integer (pos k -ℤ pos m)) ∷ [])
+-- of an event, after the element's number
+abbrev rest_of : ℕ → EntryView → List (Passing quotable)
+rest_of event x = (beyond_text (deed_letter x.deed) x.number event, of_part (beyond_text (deed_letter x.deed) x.number event) (beyond_part x.deed x.number event)) ∷
+    (codes ";", refl) ∷ (change_text x.change, change_quotable x.change) ∷ (codes ";", refl) ∷ (tokens_text x.made, tokens_quotable x.made) ∷ []
+
+-- a text before pieces that are joined
+apart : (lead first : List ℕ) (pieces : List (Passing quotable)) → joined quotable (lead ++ first) pieces ≡ lead ++ joined quotable first pieces
+apart lead first [] = refl
+apart lead first (piece ∷ pieces) = ap (λ (bs : List ℕ). joined quotable bs pieces) (append_assoc lead first piece.0) ∙ apart lead (first ++ piece.0) pieces
+
+event_string : (first n : ℕ) (ev : ℕ × Token) (x : EntryView) → (string : List ℕ) × (event_text first n ev x ≡ line_lead n ++ string ++ codes "\"")
+    × All IsQuotable string
+event_string first n ev x =
+    let string : List ℕ = joined quotable (decimal ev.0) (rest_of (first + n) x) in
+    let all : Quotable string = quotables (decimal ev.0, of_part (decimal ev.0) (of_word (decimal ev.0) (number ev.0))) (rest_of (first + n) x) in
+    (string, ap (λ (bs : List ℕ). bs ++ codes "\"") (apart (line_lead n) (decimal ev.0) (rest_of (first + n) x)),
+    all_from quotable IsQuotable quotable_means string all)
+
+pub strings : StringsAreQuotable
+strings = (event_string, λ c. all_from quotable IsQuotable quotable_means (change_text c) (change_quotable c),
+    λ ts. all_from quotable IsQuotable quotable_means (tokens_text ts) (tokens_quotable ts))
 
 -- and all of it, with the quotation marks
 inerts : (first : Passing inert) (pieces : List (Passing inert)) → Inert (joined inert first.0 pieces)
@@ -165,7 +220,7 @@ of : (xs : List ℕ) → Quotable xs → Inert xs
 of xs q = lift quotable inert quotable_inert xs q
 
 number_inert : (tag : List ℕ) (n : ℕ) → Inert tag → Inert (number_text tag n)
-number_inert tag n t = inerts (tag, t) ((decimal n, of (decimal n) (number n)) ∷ [])
+number_inert tag n t = inerts (tag, t) ((decimal n, of (decimal n) (of_part (decimal n) (of_word (decimal n) (number n)))) ∷ [])
 
 lead_inert : (n : ℕ) → Inert (line_lead n)
 lead_inert zero = refl
@@ -179,7 +234,7 @@ event_inert : (first n : ℕ) (ev : ℕ × Token) (x : EntryView) → Inert (eve
 event_inert first n ev x =
     let taken : List ℕ = beyond_text (deed_letter x.deed) x.number (first + n) in
     let head : Inert (event_head first n ev.0 x.number x.deed) = inerts (number_text (line_lead n) ev.0, number_inert (line_lead n) ev.0 (lead_inert n))
-    ((taken, of taken (beyond_quotable x.deed x.number (first + n))) ∷ []) in
+    ((taken, of taken (of_part taken (beyond_part x.deed x.number (first + n)))) ∷ []) in
     inerts (event_head first n ev.0 x.number x.deed, head) ((codes ";", refl) ∷ (change_text x.change, of (change_text x.change) (change_quotable x.change)) ∷
     (codes ";", refl) ∷ (tokens_text x.made, of (tokens_text x.made) (tokens_quotable x.made)) ∷ (codes "\"", refl) ∷ [])
 
@@ -218,10 +273,10 @@ pub plains : (first : Passing plain) (pieces : List (Passing plain)) → Plain (
 plains = join_all plain
 
 pub dec : (n : ℕ) → Plain (decimal n)
-dec n = lift quotable plain quotable_plain (decimal n) (number n)
+dec n = lift in_word plain word_plain (decimal n) (number n)
 
 pub int : (z : ℤ) → Plain (literal z)
-int z = lift quotable plain quotable_plain (literal z) (integer z)
+int z = lift in_word plain word_plain (literal z) (integer z)
 
 pub ended : (xs : List ℕ) → Plain xs → Plain (line xs)
 ended xs a = plains (xs, a) ((10 ∷ [], refl) ∷ [])
