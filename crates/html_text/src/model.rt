@@ -189,6 +189,17 @@ function restore(from) {
   s.queued = from.queued; s.served = from.served;
   return {n: from.n, s: s};
 }
+const WAVE = new Int32Array(N);
+function waveOf(s, n) {  // of event n, before its change: one more than that of the events that it needs. Those are of the page
+  const c = K + n, t = TAKES[n], tag = TAG[c], read = TYPE[t] === READ ? s.cells.get(TO[t]) : undefined;
+  let w = MADE[t] < 0 ? 0 : WAVE[MADE[t]];
+  const needs = c => { if (c >= K && WAVE[c - K] > w) w = WAVE[c - K]; };
+  if (read !== undefined && TAG[read] === FILLED) needs(read);  // what filled the cell
+  if (tag === SLOT || tag === EMPTIED) { const held = s.slots.get(PLACE[c]); if (held !== undefined) needs(held); }
+  if (tag === FILLED) readersOf(s.cells.has(PLACE[c]) ? s.cells.get(PLACE[c]) : -1).forEach(needs);
+  if (tag === HANDED) needs(REQ[s.served]);
+  return w + 1;
+}
 const EARLY = new Map(D.numbers.map((k, i) => [k, i])), EVERY = 2048;
 let TOP = START, cur = {n: -1, s: fresh()};
 for (const f of D.out) { cur.s.out.set(f, -1); unowned.set(f, -1); }
@@ -198,6 +209,7 @@ keep(-1, cur.s);
 here = BODY;
 for (let n = 0; n < N; n++) {
   if (!readEvent(n)) { fail('Event ' + no(n) + ' takes a token that is not there.'); return; }
+  WAVE[n] = waveOf(cur.s, n);
   note(cur.s, K + n);
   readTokens(n);
   if (made - n - 1 > TOP) TOP = made - n - 1;
