@@ -168,9 +168,11 @@ head_part : (e : ℕ) (d : Deed) (k m : ℕ) → InPart (decimal e ++ beyond_tex
 head_part e d k m = in_parts (decimal e, of_word (decimal e) (number e)) ((beyond_text (deed_letter d) k m, beyond_part d k m) ∷ [])
 
 pub parts : PartsAreWhole
-parts = (λ e d k m. all_from in_part IsInPart in_part_means (decimal e ++ beyond_text (deed_letter d) k m) (head_part e d k m),
-    λ c. all_from in_part IsInPart in_part_means (change_text c) (change_part c),
-    λ t. all_from in_part IsInPart in_part_means (token_text t.to t.word) (token_part t.to t.word))
+parts = (
+  λ e d k m. all_from in_part IsInPart in_part_means (decimal e ++ beyond_text (deed_letter d) k m) (head_part e d k m),
+  λ c. all_from in_part IsInPart in_part_means (change_text c) (change_part c),
+  λ t. all_from in_part IsInPart in_part_means (token_text t.to t.word) (token_part t.to t.word),
+)
 
 -- what stands between the quotation marks
 quotables : (first : Passing quotable) (pieces : List (Passing quotable)) → Quotable (joined quotable first.0 pieces)
@@ -204,13 +206,18 @@ event_string : (first n : ℕ) (ev : ℕ × Token) (x : EntryView) → (string :
     × All IsQuotable string
 event_string first n ev x =
     let string : List ℕ = joined quotable (decimal ev.0) (rest_of (first + n) x) in
-    let all : Quotable string = quotables (decimal ev.0, of_part (decimal ev.0) (of_word (decimal ev.0) (number ev.0))) (rest_of (first + n) x) in
-    (string, ap (λ (bs : List ℕ). bs ++ codes "\"") (apart (line_lead n) (decimal ev.0) (rest_of (first + n) x)),
-    all_from quotable IsQuotable quotable_means string all)
+    let all : Quotable string = quotables (decimal ev.0, of_part (decimal ev.0) (of_word (decimal ev.0) (number ev.0))) (rest_of (first + n) x) in (
+      string,
+      ap (λ (bs : List ℕ). bs ++ codes "\"") (apart (line_lead n) (decimal ev.0) (rest_of (first + n) x)),
+      all_from quotable IsQuotable quotable_means string all,
+    )
 
 pub strings : StringsAreQuotable
-strings = (event_string, λ c. all_from quotable IsQuotable quotable_means (change_text c) (change_quotable c),
-    λ ts. all_from quotable IsQuotable quotable_means (tokens_text ts) (tokens_quotable ts))
+strings = (
+  event_string,
+  λ c. all_from quotable IsQuotable quotable_means (change_text c) (change_quotable c),
+  λ ts. all_from quotable IsQuotable quotable_means (tokens_text ts) (tokens_quotable ts),
+)
 
 -- and all of it, with the quotation marks
 inerts : (first : Passing inert) (pieces : List (Passing inert)) → Inert (joined inert first.0 pieces)

@@ -34,7 +34,7 @@ returns-in_err-send_event g c =
     (l.place + 1) c.args.entries.now))
     (next_pair (event_text c.args.first) 0 l.place c.args.events.now c.args.entries.now event entry e f) l.invariant
     (sends_same _ _ _ (event_text c.args.first l.place event entry) (event_text c.args.first (0 + l.place) event entry) (ap (λ (k : ℕ). event_text c.args.first k event entry) number)
-    (sends_other c.in_err-send_event.field-0.0 p.0 _ _ _ c.in_err-send_event.ensures)))
+    (sends_other c.in_err-send_event.field-0.0 p.0 _ _ (event_text c.args.first l.place event entry) c.in_err-send_event.ensures)))
 
 pub loop-place-preserved : goal.loop-place-preserved
 loop-place-preserved g c =
@@ -51,7 +51,7 @@ loop-place-preserved g c =
     (event_text c.args.first (0 + l.place) event entry) (paired (event_text c.args.first) (0 + (l.place + 1)) (drop (l.place + 1) c.args.events.now) (drop
     (l.place + 1) c.args.entries.now))
     (next_pair (event_text c.args.first) 0 l.place c.args.events.now c.args.entries.now event entry e f) l.invariant
-    (sends_from _ _ _ _ c.in_ok-send_event.was (sends_same c.send_event.result _ _ (event_text c.args.first l.place event entry) (event_text c.args.first (0 + l.place) event entry) (ap
+    (sends_from _ _ _ (event_text c.args.first (0 + l.place) event entry) c.in_ok-send_event.was (sends_same c.send_event.result _ _ (event_text c.args.first l.place event entry) (event_text c.args.first (0 + l.place) event entry) (ap
     (λ (k : ℕ). event_text c.args.first k event entry) number) c.send_event.ensures))
 
 pub returns : goal.returns
