@@ -47,10 +47,11 @@ fn nested_as_deep_as_may_be(rt: HostRuntime) -> Result<(), Fail> {
             Err(ProgramRefusal { fault, at, .. }) => {
                 let kind = CoreKind::TooDeep;
                 assert_eq!(rt; fault.kind, FaultKind::Core { kind });
-                assert_eq!(rt; fault.column, at + 1);
+                assert_eq!(rt; fault.column, at.saturating_add(1));
                 // The last one begins there, or a token of it is there.
                 let begin = 13 + times * open.len();
-                assert!(rt; begin <= at && at < begin + open.len(), "{begin}, {at}");
+                let end = begin.saturating_add(open.len());
+                assert!(rt; begin <= at && at < end, "{begin}, {at}");
             }
         }
     }
