@@ -55,7 +55,7 @@ def number(value):
     return text[:-2] if text.endswith(".0") else text
 
 
-def mark(kind, x, y, style):
+def mark(kind, x, y):
     """A mark of a curve."""
     hollow = ' class="h"' if kind.startswith("hollow") else ""
     shape = kind.rsplit(" ", 1)[-1]
@@ -90,7 +90,7 @@ def drawn(panel, left, top, width, height):
         line = " ".join(f"{number(x(a))},{number(y(b))}" for a, b in points)
         dash = f' stroke-dasharray="{DASHES[style]}"' if DASHES[style] else ""
         out.append(f'<g class="c{style}"><polyline{dash} points="{line}"/>')
-        out.extend([] if is_marked == [False] else [mark(MARKS[style], x(a), y(b), style) for a, b in points])
+        out.extend([] if is_marked == [False] else [mark(MARKS[style], x(a), y(b)) for a, b in points])
         out.append("</g>")
     out.append(f'<path class="a" d="M{left} {top}v{height}h{width}"/>')
     return "".join(out)
@@ -104,7 +104,7 @@ def legend(entries):
         if x + wide > WIDTH - 8:
             x, y = 12, y + 20
         dash = f' stroke-dasharray="{DASHES[style]}"' if DASHES[style] else ""
-        sign = "" if is_marked == [False] else mark(MARKS[style], x + 14, y, style)
+        sign = "" if is_marked == [False] else mark(MARKS[style], x + 14, y)
         out.append(f'<g class="c{style}"><path{dash} d="M{x} {y}h28"/>{sign}</g><text class="l" x="{x + 34}" y="{y + 4}">{escape(name)}</text>')
         x += wide
     return "".join(out), (y - TOP + 14 if entries else 0)
