@@ -1,0 +1,10 @@
+pub mod Noted
+pub mod Held
+pub mod Atoms
+pub mod Lists
+pub mod Over
+pub mod Tests
+pub mod Calls
+pub mod Bodies
+pub mod Conditionals
+pub mod Loops
