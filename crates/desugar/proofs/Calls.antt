@@ -14,10 +14,11 @@ use Rattle.surface.specs.Making.{Made}
 use Rattle.std.specs.Prelude.{Option}
 use Rattle.desugar.specs.declared.frame.Frame.{Frame}
 use Rattle.desugar.specs.declared.frame.Frame.TheVariants as frame
+use Rattle.desugar.specs.Plain.{Ordinary}
 use Rattle.desugar.specs.Steps.{steps}
-use Rattle.desugar.proofs.Noted.{noted, noted_parts, o}
+use Rattle.desugar.specs.Noted.{noted, noted_parts, o}
 use Rattle.desugar.proofs.Held.{held, state, same, on}
-use Rattle.desugar.proofs.Atoms.{names_in}
+use Rattle.desugar.specs.StepsDesugar.{names_in}
 use Rattle.desugar.proofs.Lists.{call_lists, fetch_lists, store_lists}
 use Rattle.desugar.proofs.Over.{Over, OverParts, value, one_lets, two_lets}
 
@@ -38,13 +39,6 @@ over_store s t at a e d h k ws ls g ns fs st =
     (h cell ls g ns fs (frame.List (length ws) ∷ st))
     (k (cell ++ words m.it ++ core.Index ∷ []) (ls ++ held m.lets) m.given ns fs (frame.List (length ws) ∷ st)))
     (same (store_lists ws (words m.it) (words n.it) (core.Cell at (array_for s a)) core.Index (core.Store at (array_for s a))) (two_lets ls m.lets n.lets))
-
--- not built in, and with no arrays
-abbrev pub Ordinary : Callee → Type 0
-Ordinary Missing = ⊤
-Ordinary (OfValues params results) = ⊤
-Ordinary (OfArrays ranks results) = ⊥
-Ordinary (IsBuiltIn which) = ⊥
 
 call_is : (s : Setting) (at : ℕ) (strict : Bool) (f : Name) (es : Exprs) (c : Callee) (all : ℕ → Made CoreExprs) (values : ℕ → Made (Option CoreExprs))
     (first : ℕ → Made tree.Expr) (pair : ℕ → Made (tree.Expr × tree.Expr)) → Ordinary c

@@ -21,9 +21,10 @@ use Rattle.desugar.specs.declared.frame.Frame.TheVariants as frame
 use Rattle.desugar.specs.declared.frame.Given.{Given}
 use Rattle.desugar.specs.Forms.{atom_words, or_else}
 use Rattle.desugar.specs.Steps.{State, said, plain, atom_of, when_opened, steps}
-use Rattle.desugar.proofs.Noted.{noted, noted_body, noted_tests, o}
+use Rattle.desugar.specs.Noted.{noted, noted_body, noted_tests, o}
 use Rattle.desugar.proofs.Held.{held, state, same, on}
-use Rattle.desugar.proofs.Atoms.{self_of, IsCut, cut_is, stands, names_in}
+use Rattle.desugar.specs.StepsDesugar.{names_in}
+use Rattle.desugar.proofs.Atoms.{self_of, IsCut, cut_is, stands}
 use Rattle.desugar.proofs.Lists.{if_lists, last_lists, else_lists}
 use Rattle.desugar.proofs.Over.{Over}
 use Rattle.desugar.proofs.Bodies.{Ends, Gives, ending, OverBody, OverTests, body_lets, chained_is}

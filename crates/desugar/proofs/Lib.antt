@@ -1,4 +1,3 @@
-pub mod Noted
 pub mod Held
 pub mod Atoms
 pub mod Lists
@@ -8,3 +7,8 @@ pub mod Calls
 pub mod Bodies
 pub mod Conditionals
 pub mod Loops
+pub mod Carried
+pub mod Fors
+pub mod Trees
+pub mod Wanted
+pub mod Items

@@ -200,3 +200,24 @@ loop_lists ws fs ts a b = equal (ws ∷ fs ∷ ts ∷ (a ∷ []) ∷ (b ∷ []) 
     (Then (Then (Then (Then (At 0) (Then (At 3) Nil)) (Then (At 4) Nil)) (At 1)) (At 2))
     (Then (At 0) (Then (Then (At 3) (Then (At 4) (At 1))) (At 2)))
     refl
+
+pub turn_one : (ws a p b q B : Words) (then list loop bound start first bodyfirst lt bind part endlet nm left num add until nmi fix endloop give else endif : CoreWord Name) → ws ++ (a ++ (p ++ left ∷ []) ++ b ++ (q ++ fix ∷ []) ++ then ∷ [] ++ list ∷ [] ++ (loop ∷ bound ∷ start ∷ a ++ first ∷ [] ++ bodyfirst ∷ lt ∷ bind ∷ list ∷ nm ∷ left ∷ num ∷ add ∷ part ∷ endlet ∷ [])) ++ B ++ until ∷ (nmi ∷ left ∷ b ++ (q ++ fix ∷ [])) ++ endloop ∷ part ∷ give ∷ (else ∷ (list ∷ a ++ part ∷ give ∷ []) ++ endif ∷ [])
+    ≡ ws ++ (a ++ p ++ left ∷ (b ++ q) ++ fix ∷ [] ++ then ∷ (list ∷ (loop ∷ bound ∷ (start ∷ [] ++ a ++ first ∷ []) ++ (bodyfirst ∷ (lt ∷ bind ∷ [] ++ list ∷ (nm ∷ [] ++ left ∷ num ∷ [] ++ add ∷ [] ++ part ∷ []) ++ endlet ∷ B) ++ until ∷ (nmi ∷ [] ++ left ∷ (b ++ q) ++ fix ∷ [])) ++ endloop ∷ [] ++ part ∷ []) ++ give ∷ []) ++ else ∷ (list ∷ (a ++ part ∷ []) ++ give ∷ []) ++ endif ∷ [])
+turn_one ws a p b q B then list loop bound start first bodyfirst lt bind part endlet nm left num add until nmi fix endloop give else endif = equal (ws ∷ a ∷ p ∷ b ∷ q ∷ B ∷ (then ∷ []) ∷ (list ∷ []) ∷ (loop ∷ []) ∷ (bound ∷ []) ∷ (start ∷ []) ∷ (first ∷ []) ∷ (bodyfirst ∷ []) ∷ (lt ∷ []) ∷ (bind ∷ []) ∷ (part ∷ []) ∷ (endlet ∷ []) ∷ (nm ∷ []) ∷ (left ∷ []) ∷ (num ∷ []) ∷ (add ∷ []) ∷ (until ∷ []) ∷ (nmi ∷ []) ∷ (fix ∷ []) ∷ (endloop ∷ []) ∷ (give ∷ []) ∷ (else ∷ []) ∷ (endif ∷ []) ∷ [])
+    (Then (Then (Then (Then (At 0) (Then (Then (Then (Then (Then (Then (At 1) (Then (At 2) (Then (At 18) Nil))) (At 3)) (Then (At 4) (Then (At 23) Nil))) (Then (At 6) Nil)) (Then (At 7) Nil)) (Then (Then (Then (At 8) (Then (At 9) (Then (At 10) (At 1)))) (Then (At 11) Nil)) (Then (At 12) (Then (At 13) (Then (At 14) (Then (At 7) (Then (At 17) (Then (At 18) (Then (At 19) (Then (At 20) (Then (At 15) (Then (At 16) Nil))))))))))))) (At 5)) (Then (At 21) (Then (Then (At 22) (Then (At 18) (At 3))) (Then (At 4) (Then (At 23) Nil))))) (Then (At 24) (Then (At 15) (Then (At 25) (Then (Then (At 26) (Then (Then (At 7) (At 1)) (Then (At 15) (Then (At 25) Nil)))) (Then (At 27) Nil))))))
+    (Then (At 0) (Then (Then (Then (Then (Then (Then (At 1) (At 2)) (Then (At 18) (Then (At 3) (At 4)))) (Then (At 23) Nil)) (Then (At 6) (Then (Then (At 7) (Then (Then (Then (Then (At 8) (Then (At 9) (Then (Then (Then (At 10) Nil) (At 1)) (Then (At 11) Nil)))) (Then (Then (At 12) (Then (Then (Then (At 13) (Then (At 14) Nil)) (Then (At 7) (Then (Then (Then (Then (At 17) Nil) (Then (At 18) (Then (At 19) Nil))) (Then (At 20) Nil)) (Then (At 15) Nil)))) (Then (At 16) (At 5)))) (Then (At 21) (Then (Then (Then (At 22) Nil) (Then (At 18) (Then (At 3) (At 4)))) (Then (At 23) Nil))))) (Then (At 24) Nil)) (Then (At 15) Nil))) (Then (At 25) Nil)))) (Then (At 26) (Then (Then (At 7) (Then (At 1) (Then (At 15) Nil))) (Then (At 25) Nil)))) (Then (At 27) Nil)))
+    refl
+
+pub turn_many : (ws a p b q B ts cf cn cg : Words) (then list loop bound start first bodyfirst lt bind part endlet nm left num add until nmi fix endloop give else endif drp : CoreWord Name) → ws ++ (a ++ (p ++ left ∷ []) ++ b ++ (q ++ fix ∷ []) ++ then ∷ [] ++ (lt ∷ drp ∷ ts ++ list ∷ []) ++ (loop ∷ bound ∷ start ∷ a ++ first ∷ cf ++ bodyfirst ∷ lt ∷ bind ∷ list ∷ nm ∷ left ∷ num ∷ add ∷ part ∷ endlet ∷ [])) ++ B ++ until ∷ (nmi ∷ left ∷ b ++ (q ++ fix ∷ [])) ++ endloop ∷ (part ∷ endlet ∷ list ∷ cn ++ give ∷ else ∷ list ∷ cg ++ give ∷ endif ∷ [])
+    ≡ ws ++ (a ++ p ++ left ∷ (b ++ q) ++ fix ∷ [] ++ then ∷ (lt ∷ drp ∷ ts ++ list ∷ (loop ∷ bound ∷ (start ∷ [] ++ a ++ first ∷ cf) ++ (bodyfirst ∷ (lt ∷ bind ∷ [] ++ list ∷ (nm ∷ [] ++ left ∷ num ∷ [] ++ add ∷ [] ++ part ∷ []) ++ endlet ∷ B) ++ until ∷ (nmi ∷ [] ++ left ∷ (b ++ q) ++ fix ∷ [])) ++ endloop ∷ [] ++ part ∷ []) ++ endlet ∷ (list ∷ cn ++ give ∷ [])) ++ else ∷ (list ∷ cg ++ give ∷ []) ++ endif ∷ [])
+turn_many ws a p b q B ts cf cn cg then list loop bound start first bodyfirst lt bind part endlet nm left num add until nmi fix endloop give else endif drp = equal (ws ∷ a ∷ p ∷ b ∷ q ∷ B ∷ ts ∷ cf ∷ cn ∷ cg ∷ (then ∷ []) ∷ (list ∷ []) ∷ (loop ∷ []) ∷ (bound ∷ []) ∷ (start ∷ []) ∷ (first ∷ []) ∷ (bodyfirst ∷ []) ∷ (lt ∷ []) ∷ (bind ∷ []) ∷ (part ∷ []) ∷ (endlet ∷ []) ∷ (nm ∷ []) ∷ (left ∷ []) ∷ (num ∷ []) ∷ (add ∷ []) ∷ (until ∷ []) ∷ (nmi ∷ []) ∷ (fix ∷ []) ∷ (endloop ∷ []) ∷ (give ∷ []) ∷ (else ∷ []) ∷ (endif ∷ []) ∷ (drp ∷ []) ∷ [])
+    (Then (Then (Then (Then (At 0) (Then (Then (Then (Then (Then (Then (At 1) (Then (At 2) (Then (At 22) Nil))) (At 3)) (Then (At 4) (Then (At 27) Nil))) (Then (At 10) Nil)) (Then (Then (At 17) (Then (At 32) (At 6))) (Then (At 11) Nil))) (Then (Then (Then (At 12) (Then (At 13) (Then (At 14) (At 1)))) (Then (At 15) (At 7))) (Then (At 16) (Then (At 17) (Then (At 18) (Then (At 11) (Then (At 21) (Then (At 22) (Then (At 23) (Then (At 24) (Then (At 19) (Then (At 20) Nil))))))))))))) (At 5)) (Then (At 25) (Then (Then (At 26) (Then (At 22) (At 3))) (Then (At 4) (Then (At 27) Nil))))) (Then (At 28) (Then (Then (Then (At 19) (Then (At 20) (Then (At 11) (At 8)))) (Then (At 29) (Then (At 30) (Then (At 11) (At 9))))) (Then (At 29) (Then (At 31) Nil)))))
+    (Then (At 0) (Then (Then (Then (Then (Then (Then (At 1) (At 2)) (Then (At 22) (Then (At 3) (At 4)))) (Then (At 27) Nil)) (Then (At 10) (Then (Then (Then (At 17) (Then (At 32) (At 6))) (Then (At 11) (Then (Then (Then (Then (At 12) (Then (At 13) (Then (Then (Then (At 14) Nil) (At 1)) (Then (At 15) (At 7))))) (Then (Then (At 16) (Then (Then (Then (At 17) (Then (At 18) Nil)) (Then (At 11) (Then (Then (Then (Then (At 21) Nil) (Then (At 22) (Then (At 23) Nil))) (Then (At 24) Nil)) (Then (At 19) Nil)))) (Then (At 20) (At 5)))) (Then (At 25) (Then (Then (Then (At 26) Nil) (Then (At 22) (Then (At 3) (At 4)))) (Then (At 27) Nil))))) (Then (At 28) Nil)) (Then (At 19) Nil)))) (Then (At 20) (Then (Then (At 11) (At 8)) (Then (At 29) Nil)))))) (Then (At 30) (Then (Then (At 11) (At 9)) (Then (At 29) Nil)))) (Then (At 31) Nil)))
+    refl
+
+pub function_lists : (ws ps rs b : Words) (f y e : CoreWord Name) → ws ++ f ∷ [] ++ ps ++ rs ++ y ∷ [] ++ b ++ e ∷ []
+    ≡ ws ++ (f ∷ ps ++ rs ++ y ∷ b ++ e ∷ [])
+function_lists ws ps rs b f y e = equal (ws ∷ ps ∷ rs ∷ b ∷ (f ∷ []) ∷ (y ∷ []) ∷ (e ∷ []) ∷ [])
+    (Then (Then (Then (Then (Then (Then (At 0) (Then (At 4) Nil)) (At 1)) (At 2)) (Then (At 5) Nil)) (At 3)) (Then (At 6) Nil))
+    (Then (At 0) (Then (Then (Then (Then (At 4) (At 1)) (At 2)) (Then (At 5) (At 3))) (Then (At 6) Nil)))
+    refl

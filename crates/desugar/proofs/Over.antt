@@ -27,9 +27,10 @@ use Rattle.desugar.specs.declared.frame.Frame.TheVariants as frame
 use Rattle.desugar.specs.declared.frame.Given.{Given}
 use Rattle.desugar.specs.Forms.{atom_words, atom_level, brackets, left_end, right_end, given_end, giving, or_else}
 use Rattle.desugar.specs.Steps.{Names, State, said, plain, named, atom_of, and_opened, or_opened, left_or_zero, settled, steps}
-use Rattle.desugar.proofs.Noted.{Noted, noted, noted_parts, o}
+use Rattle.desugar.specs.Noted.{Noted, noted, noted_parts, o}
 use Rattle.desugar.proofs.Held.{held, held-append, under_words, state, same, on, settled_at}
-use Rattle.desugar.proofs.Atoms.{named_self, self_of, IsAtom, Stands, IsCut, cut_is, stands, names_in}
+use Rattle.desugar.specs.StepsDesugar.{names_in}
+use Rattle.desugar.proofs.Atoms.{named_self, self_of, IsAtom, Stands, IsCut, cut_is, stands}
 
 -- the value that a part leaves
 abbrev pub value : Setting → Expr → Made tree.Expr → Words → Words → List (Given Name) → List (Atom Name) → List (Frame Name) → State Name

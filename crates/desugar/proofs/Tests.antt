@@ -23,9 +23,10 @@ use Rattle.desugar.specs.declared.frame.Frame.TheVariants as frame
 use Rattle.desugar.specs.declared.frame.Given.{Given}
 use Rattle.desugar.specs.Forms.{atom_words, atom_level, brackets, left_end, right_end, given_end, giving, or_else}
 use Rattle.desugar.specs.Steps.{State, plain, atom_of, and_opened, or_opened, steps}
-use Rattle.desugar.proofs.Noted.{noted}
+use Rattle.desugar.specs.Noted.{noted}
 use Rattle.desugar.proofs.Held.{held, under_words, state, same, on, settled_at}
-use Rattle.desugar.proofs.Atoms.{self_of, IsAtom, IsCut, cut_is, stands, names_in}
+use Rattle.desugar.specs.StepsDesugar.{names_in}
+use Rattle.desugar.proofs.Atoms.{self_of, IsAtom, IsCut, cut_is, stands}
 use Rattle.desugar.proofs.Lists.{true_lists, false_lists, or_lists}
 use Rattle.desugar.proofs.Over.{Over, two_lets, at_level_words}
 

@@ -83,3 +83,18 @@ abbrev mutual
   pub noted_carried : Carried → Noted
   noted_carried Nothing = []
   noted_carried (With xs firsts) = noted_firsts xs firsts
+
+-- the lengths of an array
+abbrev pub noted_lengths : Exprs → Noted
+noted_lengths (One e) = noted false e ++ (word.Core core.Part, true) ∷ []
+noted_lengths (More e es) = noted false e ++ (word.Core core.Part, true) ∷ noted_lengths es
+
+abbrev pub noted_item : Item → Noted
+noted_item (Cells x es) = o (core.Array x.at x.name) ∷ o core.List ∷ noted_lengths es ++ (word.EndArray, false) ∷ []
+noted_item (Const x e) = (word.Constant x.at x.name, false) ∷ noted false e ++ (word.EndConstant, false) ∷ []
+noted_item (Defines f) = o (core.Function f.name.at f.name.name) ∷ all_bare (map param_word f.params) ++ all_bare (result_words f.results)
+    ++ o (core.Body f.body_at) ∷ noted_body f.body ++ o core.EndFunction ∷ []
+
+abbrev pub noted_program : Program → Noted
+noted_program [] = []
+noted_program (i ∷ items) = noted_item i ++ noted_program items
