@@ -138,8 +138,8 @@ over_do s t es rest h k e may ws ls g ns fs st =
     let su : List (Frame Name) = frame.Body (length ws) (length ls) (finish_of e) ∷ st in
     let ws1 : Words = ws ++ [] ++ held m.lets ++ [] ++ (core.List ∷ part_words m.it) ++ core.Do ∷ [] in
     let whole : body_words (ending e (under (m.lets ++ (r.lets ++ [])) (tree.Do m.it r.it))) ≡ held m.lets ++ (core.List ∷ part_words m.it ++ core.Do ∷ body_words
-        (ending e r.it)) =
-        rw (body_lets s rest m.given, ending_under e (m.lets ++ []) (tree.Do m.it r.it), ending_do e m.it r.it) (under_more m.lets (tree.Do m.it (ending e r.it))) in
+    (ending e r.it)) =
+    rw (body_lets s rest m.given, ending_under e (m.lets ++ []) (tree.Do m.it r.it), ending_do e m.it r.it) (under_more m.lets (tree.Do m.it (ending e r.it))) in
     on (names_in s) _ _ _ (o core.List ∷ noted_parts es) (o core.Do ∷ noted_body rest) (h (ws ++ core.List ∷ []) ls g ns fs su)
     (ap (λ (z : State Name). steps (names_in s) (next_statement z (length ls) (finish_of e) st) (noted_body rest))
     (ap (λ (z : Words). settled (state z (ls ++ held m.lets) m.given ns fs su) (length ws) (length ls) [] [] (core.Do ∷ []) st)
@@ -156,9 +156,9 @@ over_when s t tests rest h k e may ws ls g ns fs st =
     let tested = h (ws ++ core.List ∷ []) ls g ns fs su in
     let ws1 : Words = ws ++ [] ++ held m.lets ++ [] ++ (core.List ∷ words m.it) ++ core.Part ∷ core.Do ∷ [] in
     let whole : body_words (ending e (under (m.lets ++ (r.lets ++ [])) (tree.Do (tree.One m.it) r.it))) ≡ held m.lets ++ (core.List ∷ (words m.it ++ core.Part ∷ [])
-        ++ core.Do ∷ body_words (ending e r.it)) =
-        rw (body_lets s rest m.given, ending_under e (m.lets ++ []) (tree.Do (tree.One m.it) r.it), ending_do e (tree.One m.it) r.it)
-        (under_more m.lets (tree.Do (tree.One m.it) (ending e r.it))) in
+    ++ core.Do ∷ body_words (ending e r.it)) =
+    rw (body_lets s rest m.given, ending_under e (m.lets ++ []) (tree.Do (tree.One m.it) r.it), ending_do e (tree.One m.it) r.it)
+    (under_more m.lets (tree.Do (tree.One m.it) (ending e r.it))) in
     on (names_in s) _ _ _ (o core.List ∷ noted_tests tests) ((word.When, false) ∷ noted_body rest) tested.1
     (ap (λ (z : State Name). steps (names_in s) (next_statement z (length ls) (finish_of e) st) (noted_body rest))
     (ap (λ (z : Words). settled (state z (ls ++ held m.lets) m.given ns fs su) (length ws) (length ls) [] [] (core.Part ∷ core.Do ∷ []) st)
@@ -185,9 +185,9 @@ over_let s t at targets es rest h k e may ws ls g ns fs st =
     let line : Words = core.Let at ∷ (all ++ core.List ∷ part_words m.it) in
     let ws1 : Words = ws ++ [] ++ held m.lets ++ [] ++ line ++ core.EndLet at ∷ [] in
     let whole : body_words (ending e (under (m.lets ++ (r.lets ++ [])) (tree.Let at targets m.it r.it))) ≡ held m.lets ++ (core.Let at ∷ all ++ core.List ∷
-        part_words m.it ++ core.EndLet at ∷ body_words (ending e r.it)) =
-        rw (body_lets s rest m.given, ending_under e (m.lets ++ []) (tree.Let at targets m.it r.it), ending_let e at targets m.it r.it)
-        (under_more m.lets (tree.Let at targets m.it (ending e r.it))) in
+    part_words m.it ++ core.EndLet at ∷ body_words (ending e r.it)) =
+    rw (body_lets s rest m.given, ending_under e (m.lets ++ []) (tree.Let at targets m.it r.it), ending_let e at targets m.it r.it)
+    (under_more m.lets (tree.Let at targets m.it (ending e r.it))) in
     on (names_in s) _ _ _ (o (core.Let at) ∷ all_bare (map target_word targets) ++ o core.List ∷ noted_parts es) (o (core.EndLet at) ∷ noted_body rest)
     (on (names_in s) _ _ _ (o (core.Let at) ∷ all_bare (map target_word targets)) (o core.List ∷ noted_parts es)
     (over_targets s targets (ws ++ core.Let at ∷ []) ls g ns fs su) (h (ws ++ core.Let at ∷ [] ++ all ++ core.List ∷ []) ls g ns fs su))

@@ -63,7 +63,7 @@ opened s p arm h k ws ls g ns fs st =
     let su : List (Frame Name) = frame.Value (length ws) (place_of p) (level (desugar s false p g).it) (self_of s p) (is_number p) ∷ st in
     let c : IsCut s [] p (self_of s p) ws ls g ns fs su st = cut_is s [] p (self_of s p) (stands s p) ws ls g ns fs su st in
     let a : Atom Name = atom_of (names_in s) (state (ws ++ words (desugar s false p g).it) (ls ++ held (desugar s false p g).lets) (desugar s false p g).given ns fs su)
-        (place_of p) (self_of s p) in
+    (place_of p) (self_of s p) in
     record {
       test = a;
       are = c.atom.words;
@@ -80,9 +80,9 @@ over_last s at p arm h k ws ls g ns fs st =
     let body : Words = body_words (forms.giving (tree.One m.it) n.it) in
     let lets : ls ++ held m.lets ≡ ls ++ held (m.lets ++ (n.lets ++ [])) = rw (body_lets s arm m.given, append-nil m.lets) refl in
     let path : steps (names_in s) (state ws ls g ns fs st) (noted_tests (Last at p arm)) ≡ state (ws ++ words (desugar_tests s (Last at p arm) g).it)
-        (ls ++ held (desugar_tests s (Last at p arm) g).lets) (desugar_tests s (Last at p arm) g).given ns fs (plain (length ws) at 9 ∷ st) =
-        on (names_in s) _ _ _ (noted false p ++ (word.Core core.Then, true) ∷ noted_body arm) ((word.EndWhen at, false) ∷ []) i.left
-        (same (last_lists ws (atom_words i.test) body core.Then core.List core.Part core.Give core.Else (core.EndIf at) ∙ rw i.are refl) lets) in
+    (ls ++ held (desugar_tests s (Last at p arm) g).lets) (desugar_tests s (Last at p arm) g).given ns fs (plain (length ws) at 9 ∷ st) =
+    on (names_in s) _ _ _ (noted false p ++ (word.Core core.Then, true) ∷ noted_body arm) ((word.EndWhen at, false) ∷ []) i.left
+    (same (last_lists ws (atom_words i.test) body core.Then core.List core.Part core.Give core.Else (core.EndIf at) ∙ rw i.are refl) lets) in
     (at, path)
 
 pub over_else : (s : Setting) (at : ℕ) (p : Expr) (arm : Body) (more : Tests) → Over s false p → OverBody s false arm → OverTests s more
@@ -98,10 +98,10 @@ over_else s at p arm more h k j ws ls g ns fs st =
     let rest = j ws2 ls1 n.given ns fs (frame.Chain (length ws) (length ws2) (length ls1) ∷ st) in
     let lets : ls ++ held m.lets ≡ ls ++ held (m.lets ++ (n.lets ++ [])) = rw (body_lets s arm m.given, append-nil m.lets) refl in
     let path : steps (names_in s) (state ws ls g ns fs st) (noted_tests (Else at p arm more)) ≡ state (ws ++ words (desugar_tests s (Else at p arm more) g).it)
-        (ls ++ held (desugar_tests s (Else at p arm more) g).lets) (desugar_tests s (Else at p arm more) g).given ns fs (plain (length ws) at 9 ∷ st) =
-        on (names_in s) _ _ _ (noted false p ++ (word.Core core.Then, true) ∷ noted_body arm ++ o core.Else ∷ noted_tests more) ((word.EndWhen at, false) ∷ [])
-        (on (names_in s) _ _ _ (noted false p ++ (word.Core core.Then, true) ∷ noted_body arm) (o core.Else ∷ noted_tests more) i.left rest.1)
-        (ap (λ (z : State Name). said z (core.EndIf at ∷ []) (plain (length ws) at 9 ∷ st)) (chained_is ws2 ls1 q.lets q.it q.given ns fs st
-        (plain (length ws2) rest.0 9 ∷ frame.Chain (length ws) (length ws2) (length ls1) ∷ st))
-        ∙ same (else_lists ws (atom_words i.test) body (body_words (chained q.lets q.it)) core.Then core.Else (core.EndIf at) ∙ rw i.are refl) lets) in
+    (ls ++ held (desugar_tests s (Else at p arm more) g).lets) (desugar_tests s (Else at p arm more) g).given ns fs (plain (length ws) at 9 ∷ st) =
+    on (names_in s) _ _ _ (noted false p ++ (word.Core core.Then, true) ∷ noted_body arm ++ o core.Else ∷ noted_tests more) ((word.EndWhen at, false) ∷ [])
+    (on (names_in s) _ _ _ (noted false p ++ (word.Core core.Then, true) ∷ noted_body arm) (o core.Else ∷ noted_tests more) i.left rest.1)
+    (ap (λ (z : State Name). said z (core.EndIf at ∷ []) (plain (length ws) at 9 ∷ st)) (chained_is ws2 ls1 q.lets q.it q.given ns fs st
+    (plain (length ws2) rest.0 9 ∷ frame.Chain (length ws) (length ws2) (length ls1) ∷ st))
+    ∙ same (else_lists ws (atom_words i.test) body (body_words (chained q.lets q.it)) core.Then core.Else (core.EndIf at) ∙ rw i.are refl) lets) in
     (at, path)

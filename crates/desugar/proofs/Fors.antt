@@ -95,10 +95,10 @@ over_head s at bound i first end carried h k ws ls g ns fs st =
     let su : List (Frame Name) = frame.Value (length ws) (place_of first) (level (desugar s false first g).it) (self_of s first) (is_number first) ∷ frame.From c ∷ st in
     let x : IsCut s [] first (self_of s first) ws ls g ns fs su su = cut_is s [] first (self_of s first) (stands s first) ws ls g ns fs su su in
     let a : Atom Name = atom_of (names_in s) (state (ws ++ words (desugar s false first g).it) (ls ++ held (desugar s false first g).lets)
-        (desugar s false first g).given ns fs su) (place_of first) (self_of s first) in
+    (desugar s false first g).given ns fs su) (place_of first) (self_of s first) in
     let ls1 : Words = ls ++ held m.lets in
     let y : IsNamed s (place_of first) a m.it ws ls1 m.given ns fs su (frame.To c (name_made (names_in s) (state ws ls1 m.given ns fs su) (place_of first) a) ∷ st) =
-        named_is s (place_of first) a m.it x.atom ws ls1 m.given ns fs su _ in
+    named_is s (place_of first) a m.it x.atom ws ls1 m.given ns fs su _ in
     let b : Atom Name = name_made (names_in s) (state ws ls1 m.given ns fs su) (place_of first) a in
     let ls2 : Words = ls1 ++ held n.lets in
     let st2 : List (Frame Name) = frame.To c b ∷ st in
@@ -107,7 +107,7 @@ over_head s at bound i first end carried h k ws ls g ns fs st =
     let free : Option (Atom Name) = unless_hidden (names_in s) i.name (hidden_by carried end) (self_of s end) in
     let e : Atom Name = atom_of (names_in s) (state (ws ++ words d.it) (ls2 ++ held d.lets) d.given ns fs sv) (place_of end) free in
     let z : IsCut s (i.name ∷ bare (carried_names carried)) end free ws ls2 n.given ns fs sv (frame.Over c b e (length ns) (length fs) ∷ st) =
-        cut_is s (i.name ∷ bare (carried_names carried)) end free (stands_hidden s i.name carried end) ws ls2 n.given ns fs sv _ in
+    cut_is s (i.name ∷ bare (carried_names carried)) end free (stands_hidden s i.name carried end) ws ls2 n.given ns fs sv _ in
     record {
       begin = b;
       stop = e;
@@ -207,17 +207,17 @@ over_for_nothing s t at bound i first end body h k j ws ls g ns fs st =
     let head : Words = some_turn c x.begin x.stop ++ where_it_goes at [] ++ loop_begins c x.begin [] [] next in
     let whole : Words = ws ++ head ++ body_words (forms.giving (tree.One (tree.Named at next)) n.it) in
     let lets : ls1 ≡ ls ++ held (m1.lets ++ (m2.lets ++ (m3.lets ++ (n.lets ++ [])))) =
-        rw (body_lets s body (m3.given + 1)) (sym (append-nil ls1) ∙ three_lets ls m1.lets m2.lets m3.lets []) in
+    rw (body_lets s body (m3.given + 1)) (sym (append-nil ls1) ∙ three_lets ls m1.lets m2.lets m3.lets []) in
     let e : Ending = Gives (an.Name at next) (tree.Named at next) (next_is at next) in
     let begins : State Name = state ws ls1 m3.given ns fs so in
     let turned : State Name = in_body whole ls1 n.given ns fs e so in
     let path : steps (names_in s) begins ((word.Turns, false) ∷ noted_body body) ≡ turned =
-        ap₂ (λ (us : List (Given Name)) (vs : List (Atom Name)). steps (names_in s) (turns_open begins c x.begin x.stop next us vs so) (noted_body body))
-        (drop-length ns) (drop-length fs) ∙ j e tt (ws ++ head) ls1 (m3.given + 1) ns fs so in
+    ap₂ (λ (us : List (Given Name)) (vs : List (Atom Name)). steps (names_in s) (turns_open begins c x.begin x.stop next us vs so) (noted_body body))
+    (drop-length ns) (drop-length fs) ∙ j e tt (ws ++ head) ls1 (m3.given + 1) ns fs so in
     let last : steps (names_in s) turned ((word.EndFor at, false) ∷ []) ≡ value s (For at bound i first end Nothing body)
-        (desugar s t (For at bound i first end Nothing body) g) ws ls ns fs st =
-        four (λ (us : List (Given Name)) (vs : List (Atom Name)) (xs : List (Given Name)) (ys : List (Atom Name)). for_ended whole ls1 n.given c x.begin x.stop us vs xs ys st)
-        (drop-length ns) (drop-length fs) (take-length ns) (take-length fs) ∙ same (counting_words c x.begin x.stop m2.it m3.it next n.it x.begin_is x.stop_is ws) lets in
+    (desugar s t (For at bound i first end Nothing body) g) ws ls ns fs st =
+    four (λ (us : List (Given Name)) (vs : List (Atom Name)) (xs : List (Given Name)) (ys : List (Atom Name)). for_ended whole ls1 n.given c x.begin x.stop us vs xs ys st)
+    (drop-length ns) (drop-length fs) (take-length ns) (take-length fs) ∙ same (counting_words c x.begin x.stop m2.it m3.it next n.it x.begin_is x.stop_is ws) lets in
     on (names_in s) (state ws ls g ns fs st) turned _ (head_words at bound i first end ++ (word.EndRange, hidden_by Nothing end) ∷ [] ++ (word.Turns, false) ∷ noted_body body)
     ((word.EndFor at, false) ∷ [])
     (on (names_in s) (state ws ls g ns fs st) begins turned (head_words at bound i first end ++ (word.EndRange, hidden_by Nothing end) ∷ [])
@@ -240,30 +240,30 @@ over_for_with s t at bound i first end v vs firsts body many h k l j ws ls g ns 
     let ls1 : Words = ls0 ++ held m4.lets in
     let so : List (Frame Name) = frame.Over c x.begin x.stop (length ns) (length fs) ∷ st in
     let y : Carries s (v ∷ vs) firsts ws ls0 m3.given ns fs c x.begin x.stop (length ns) (length fs) st =
-        l (v ∷ vs) many ws ls0 m3.given ns fs c x.begin x.stop (length ns) (length fs) st in
+    l (v ∷ vs) many ws ls0 m3.given ns fs c x.begin x.stop (length ns) (length fs) st in
     let gs : List (Given Name) = all_given_as (v ∷ vs) in
     let head : Words = some_turn c x.begin x.stop ++ where_it_goes at gs ++ loop_begins c x.begin gs y.atoms next in
     let whole : Words = ws ++ head ++ body_words (forms.giving_first (tree.Named at next) n.it) in
     let lets : ls1 ≡ ls ++ held (m1.lets ++ (m2.lets ++ (m3.lets ++ (m4.lets ++ (n.lets ++ []))))) =
-        rw (body_lets s body (m4.given + 1), append-nil m4.lets) (three_lets ls m1.lets m2.lets m3.lets m4.lets) in
+    rw (body_lets s body (m4.given + 1), append-nil m4.lets) (three_lets ls m1.lets m2.lets m3.lets m4.lets) in
     let e : Ending = GivesFirst (an.Name at next) (tree.Named at next) (next_is at next) in
     let begins : State Name = state ws ls0 m3.given ns fs so in
     let opened : State Name = state ws ls1 m4.given (ns ++ gs) (fs ++ y.atoms) so in
     let turned : State Name = in_body whole ls1 n.given (ns ++ gs) (fs ++ y.atoms) e so in
     let long : length (v ∷ vs) ≡ length y.atoms = sym many ∙ sym (atoms_are y.atoms s firsts m3.given y.are) in
     let path : steps (names_in s) opened ((word.Turns, false) ∷ noted_body body) ≡ turned =
-        ap₂ (λ (us : List (Given Name)) (vs : List (Atom Name)). steps (names_in s) (turns_open opened c x.begin x.stop next us vs so) (noted_body body))
-        (drop-append_seam ns gs) (drop-append_seam fs y.atoms) ∙ j e tt (ws ++ head) ls1 (m4.given + 1) (ns ++ gs) (fs ++ y.atoms) so in
+    ap₂ (λ (us : List (Given Name)) (vs : List (Atom Name)). steps (names_in s) (turns_open opened c x.begin x.stop next us vs so) (noted_body body))
+    (drop-append_seam ns gs) (drop-append_seam fs y.atoms) ∙ j e tt (ws ++ head) ls1 (m4.given + 1) (ns ++ gs) (fs ++ y.atoms) so in
     let last : steps (names_in s) turned ((word.EndFor at, false) ∷ []) ≡ value s (For at bound i first end carried body)
-        (desugar s t (For at bound i first end carried body) g) ws ls ns fs st =
-        four (λ (us : List (Given Name)) (ws : List (Atom Name)) (xs : List (Given Name)) (ys : List (Atom Name)). for_ended whole ls1 n.given c x.begin x.stop us ws xs ys st)
-        (drop-append_seam ns gs) (drop-append_seam fs y.atoms) (take-append_seam ns gs) (take-append_seam fs y.atoms)
-        ∙ same (carrying_words c x.begin x.stop m2.it m3.it next n.it v vs y.atoms m4.it x.begin_is x.stop_is y.are long ws) lets in
+    (desugar s t (For at bound i first end carried body) g) ws ls ns fs st =
+    four (λ (us : List (Given Name)) (ws : List (Atom Name)) (xs : List (Given Name)) (ys : List (Atom Name)). for_ended whole ls1 n.given c x.begin x.stop us ws xs ys st)
+    (drop-append_seam ns gs) (drop-append_seam fs y.atoms) (take-append_seam ns gs) (take-append_seam fs y.atoms)
+    ∙ same (carrying_words c x.begin x.stop m2.it m3.it next n.it v vs y.atoms m4.it x.begin_is x.stop_is y.are long ws) lets in
     let front : Noted = head_words at bound i first end ++ (word.EndRange, hidden_by carried end) ∷ [] in
     let carries : steps (names_in s) (state ws ls g ns fs st) (head_words at bound i first end ++ (word.EndRange, hidden_by carried end) ∷ noted_firsts (v ∷ vs) firsts) ≡ opened =
-        ap (λ (z : Noted). steps (names_in s) (state ws ls g ns fs st) z) (sym (append_assoc (head_words at bound i first end) ((word.EndRange, hidden_by carried end) ∷ [])
-        (noted_firsts (v ∷ vs) firsts)))
-        ∙ on (names_in s) (state ws ls g ns fs st) begins opened front (noted_firsts (v ∷ vs) firsts) x.left y.left in
+    ap (λ (z : Noted). steps (names_in s) (state ws ls g ns fs st) z) (sym (append_assoc (head_words at bound i first end) ((word.EndRange, hidden_by carried end) ∷ [])
+    (noted_firsts (v ∷ vs) firsts)))
+    ∙ on (names_in s) (state ws ls g ns fs st) begins opened front (noted_firsts (v ∷ vs) firsts) x.left y.left in
     on (names_in s) (state ws ls g ns fs st) turned _
     (head_words at bound i first end ++ (word.EndRange, hidden_by carried end) ∷ noted_firsts (v ∷ vs) firsts ++ (word.Turns, false) ∷ noted_body body)
     ((word.EndFor at, false) ∷ [])

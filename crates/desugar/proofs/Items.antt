@@ -196,8 +196,11 @@ over_program known prefix (Defines g ∷ items) f h ws n =
     let i = over_function known prefix g f.0 h.0 ws n in
     let w : Words = item_words (tree.Defines (made_function s g)) in
     let r : ProgramDone s items (ws ++ w) i.given = over_program known prefix items f.1 h.1 (ws ++ w) i.given in
-    record { given = r.given; left = and_items s (Defines g) w items ws n i.given i.left r ∙ ap (λ (z : tree.Program). with_words (ws ++ program_words z) r.given)
-        (sym (items_are known prefix g items h.0.0)) }
+    record {
+      given = r.given;
+      left = and_items s (Defines g) w items ws n i.given i.left r ∙ ap (λ (z : tree.Program). with_words (ws ++ program_words z) r.given)
+          (sym (items_are known prefix g items h.0.0));
+    }
 
 pub steps_desugar : (p : Program) (known : Known) (q : tree.Program) → FitsProgram p → heads nothing p ≡ Ok known → IsPlainProgram known p → desugared p ≡ Ok q
     → IsDone p known q

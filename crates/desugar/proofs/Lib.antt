@@ -12,3 +12,4 @@ pub mod Fors
 pub mod Trees
 pub mod Wanted
 pub mod Items
+pub mod SampleFlags

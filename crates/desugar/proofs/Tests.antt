@@ -53,9 +53,9 @@ over_false_and s at l r h k ws ls g ns fs st =
     let m : Made tree.Expr = atom s [] l (desugar s false l) g in
     let n : Made tree.Expr = desugar s false r m.given in
     let c : IsCut s [] l (self_of s l) ws ls g ns fs (frame.Value (length ws) (place_of l) (level (desugar s false l g).it) (self_of s l) (is_number l) ∷ st) st =
-        cut_is s [] l (self_of s l) (stands s l) ws ls g ns fs _ st in
+    cut_is s [] l (self_of s l) (stands s l) ws ls g ns fs _ st in
     let a : Atom Name = atom_of (names_in s) (state (ws ++ words (desugar s false l g).it) (ls ++ held (desugar s false l g).lets) (desugar s false l g).given ns fs
-        (frame.Value (length ws) (place_of l) (level (desugar s false l g).it) (self_of s l) (is_number l) ∷ st)) (place_of l) (self_of s l) in
+    (frame.Value (length ws) (place_of l) (level (desugar s false l g).it) (self_of s l) (is_number l) ∷ st)) (place_of l) (self_of s l) in
     let ws1 : Words = ws ++ (atom_words a ++ core.Then ∷ []) in
     let ls1 : Words = ls ++ held m.lets in
     let st1 : List (Frame Name) = frame.And (length ws) (length ws1) (length ls1) (Some a) ∷ st in
@@ -72,9 +72,9 @@ over_or s t at l r h k ws ls g ns fs st =
     let m : Made tree.Expr = atom s [] l (desugar s false l) g in
     let n : Made tree.Expr = desugar s false r m.given in
     let c : IsCut s [] l (self_of s l) ws ls g ns fs (frame.Value (length ws) (place_of l) (level (desugar s false l g).it) (self_of s l) (is_number l) ∷ st) st =
-        cut_is s [] l (self_of s l) (stands s l) ws ls g ns fs _ st in
+    cut_is s [] l (self_of s l) (stands s l) ws ls g ns fs _ st in
     let a : Atom Name = atom_of (names_in s) (state (ws ++ words (desugar s false l g).it) (ls ++ held (desugar s false l g).lets) (desugar s false l g).given ns fs
-        (frame.Value (length ws) (place_of l) (level (desugar s false l g).it) (self_of s l) (is_number l) ∷ st)) (place_of l) (self_of s l) in
+    (frame.Value (length ws) (place_of l) (level (desugar s false l g).it) (self_of s l) (is_number l) ∷ st)) (place_of l) (self_of s l) in
     let head : Words = atom_words a ++ core.Then ∷ giving (atom_words a) ++ core.Else ∷ [] in
     let ws1 : Words = ws ++ head in
     let ls1 : Words = ls ++ held m.lets in

@@ -3,3 +3,4 @@ pub mod Steps
 pub mod Noted
 pub mod Plain
 pub mod StepsDesugar
+pub mod Flags
