@@ -72,4 +72,3 @@ numbered_flags = refl
 
 prefixes_flags : AreFlags samples.prefixes
 prefixes_flags = refl
-
