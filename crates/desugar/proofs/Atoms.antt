@@ -7,27 +7,26 @@ use Rattle.std.proofs.Math.Seq.{take-append_seam, drop-append_seam}
 use Rattle.semantics.specs.Graph.{same_name}
 use Rattle.operators.specs.declared.Unary.{Unary}
 use Rattle.operators.specs.declared.Unary.TheVariants.{Neg, Not as Flip}
-use Rattle.source.specs.declared.word.Word.{Word as CoreWord}
 use Rattle.source.specs.declared.word.Word.TheVariants as core
 use Rattle.source.specs.Tree as tree
-use Rattle.source.specs.Tree.{Name, NameAt}
+use Rattle.source.specs.Tree.{Name}
 use Rattle.source.specs.Outside.{is_in, bare}
 use Rattle.source.specs.Fits.{level}
 use Rattle.source.specs.Words.{Words, words}
-use Rattle.surface.specs.Tree.{Expr, Number, Named, Bracket, Prefix, Infix, And, Or, Not, Fetch, Store, Call, If, Loop, For}
+use Rattle.surface.specs.Tree.{Expr, Number, Named, Bracket, Prefix}
 use Rattle.surface.specs.Tree.{Carried, carried_names}
-use Rattle.surface.specs.Known.{lookup, some_or, product}
+use Rattle.surface.specs.Known.{lookup}
 use Rattle.surface.specs.Constants.{place_of}
-use Rattle.surface.specs.Rules.{is_number, is_neg, is_constant, is_numeral}
-use Rattle.surface.specs.Making.{Held, Made, made, hidden, target, bound_to}
+use Rattle.surface.specs.Rules.{is_number, is_neg, is_numeral}
+use Rattle.surface.specs.Making.{Made, made, hidden, target, bound_to}
 use Rattle.surface.specs.CoreForms.{numeral}
-use Rattle.surface.specs.Desugar.{Setting, array_for, as_name, constant_or_value, stands_for_itself, atom, desugar}
+use Rattle.surface.specs.Desugar.{Setting, as_name, constant_or_value, stands_for_itself, atom, desugar}
 use Rattle.desugar.specs.declared.frame.Atom.{Atom}
 use Rattle.desugar.specs.declared.frame.Atom.TheVariants as an
 use Rattle.desugar.specs.declared.frame.Frame.{Frame}
 use Rattle.desugar.specs.declared.frame.Given.{Given}
-use Rattle.desugar.specs.Forms.{atom_words, atom_level, level_in, bracketed, negated, let_words}
-use Rattle.desugar.specs.Steps.{Names, State, cut, atom_of, unless_hidden, name_left, name_made}
+use Rattle.desugar.specs.Forms.{atom_words, atom_level, bracketed, negated, let_words}
+use Rattle.desugar.specs.Steps.{Names, cut, atom_of, unless_hidden, name_left, name_made}
 use Rattle.desugar.specs.StepsDesugar.{names_in}
 use Rattle.desugar.proofs.Held.{held, held_words, held-append, state, same}
 use Rattle.desugar.specs.Noted.{hidden_by}

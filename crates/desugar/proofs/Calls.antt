@@ -1,23 +1,21 @@
 -- CELLS of arrays of one dimension, and CALLS of functions of values.
-use Rattle.std.specs.Prelude.{◌≡◌, refl, ℕ, Bool, true, false, List, [], ◌∷◌, ◌++◌, length, ⊤}
+use Rattle.std.specs.Prelude.{◌≡◌, refl, ℕ, Bool, false, List, [], ◌∷◌, ◌++◌, length}
 use Rattle.std.proofs.Common.{◌∙◌, ap, sym}
 use Rattle.source.specs.declared.word.Word.TheVariants as core
 use Rattle.source.specs.Tree as tree
 use Rattle.source.specs.Tree.{Name}
 use Rattle.source.specs.Words.{words, part_words, Words}
-use Rattle.surface.specs.Tree.{Expr, Fetch, Store, Call, Exprs, One, More}
+use Rattle.surface.specs.Tree.{Expr, Fetch, Store, Call, Exprs, One}
 use Rattle.surface.specs.Known.{Callee, Missing, OfValues, OfArrays, IsBuiltIn, callee}
 use Rattle.surface.specs.Making.{Made, made, ◌>>=◌}
 use Rattle.surface.specs.Desugar.{Setting, array_for, call_made, desugar, desugar_all, desugar_values, desugar_first, desugar_pair}
 use Rattle.source.specs.Tree.{Exprs as CoreExprs}
 use Rattle.surface.specs.Making.{Made}
 use Rattle.std.specs.Prelude.{Option}
-use Rattle.desugar.specs.declared.frame.Frame.{Frame}
 use Rattle.desugar.specs.declared.frame.Frame.TheVariants as frame
 use Rattle.desugar.specs.Plain.{Ordinary}
-use Rattle.desugar.specs.Steps.{steps}
 use Rattle.desugar.specs.Noted.{noted, noted_parts, o}
-use Rattle.desugar.proofs.Held.{held, state, same, on}
+use Rattle.desugar.proofs.Held.{held, same, on}
 use Rattle.desugar.specs.StepsDesugar.{names_in}
 use Rattle.desugar.proofs.Lists.{call_lists, fetch_lists, store_lists}
 use Rattle.desugar.proofs.Over.{Over, OverParts, value, one_lets, two_lets}

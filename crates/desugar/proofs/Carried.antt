@@ -1,8 +1,7 @@
 -- WHAT A `for` CARRIES
-use Rattle.std.specs.Prelude.{◌≡◌, refl, ℕ, zero, suc, Bool, true, false, List, [], ◌∷◌, ◌++◌, length, map}
+use Rattle.std.specs.Prelude.{◌≡◌, refl, ℕ, suc, Bool, false, List, [], ◌∷◌, ◌++◌, length, map}
 use Rattle.std.proofs.Common.{◌∙◌, ap, ap₂, sym, arith, append_assoc}
 use Rattle.std.proofs.lemmas.List.{append-nil}
-use Rattle.source.specs.declared.word.Word.{Word as CoreWord}
 use Rattle.source.specs.declared.word.Word.TheVariants as core
 use Rattle.source.specs.Tree as tree
 use Rattle.source.specs.Tree.{Name, NameAt}
@@ -22,10 +21,10 @@ use Rattle.desugar.specs.declared.frame.Counting.{Counting}
 use Rattle.desugar.specs.declared.frame.Frame.{Frame}
 use Rattle.desugar.specs.declared.frame.Frame.TheVariants as frame
 use Rattle.desugar.specs.declared.frame.Given.{Given}
-use Rattle.desugar.specs.Forms.{atom_words, carried_firsts, all_bound, all_named, all_given}
+use Rattle.desugar.specs.Forms.{carried_firsts, all_bound, all_named, all_given}
 use Rattle.desugar.specs.Steps.{State, atom_of, steps}
 use Rattle.desugar.specs.Noted.{noted, noted_firsts, o}
-use Rattle.desugar.proofs.Held.{held, state, same, on}
+use Rattle.desugar.proofs.Held.{held, state, on}
 use Rattle.desugar.specs.StepsDesugar.{names_in}
 use Rattle.desugar.proofs.Atoms.{self_of, IsAtom, IsCut, cut_is, stands}
 use Rattle.desugar.proofs.Over.{Over, two_lets}

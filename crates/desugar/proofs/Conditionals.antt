@@ -1,8 +1,7 @@
 -- CONDITIONALS, with a last `else` and without one
-use Rattle.std.specs.Prelude.{◌≡◌, refl, ℕ, Bool, true, false, List, [], ◌∷◌, ◌++◌, length, drop}
-use Rattle.std.proofs.Common.{◌∙◌, ap, sym}
+use Rattle.std.specs.Prelude.{◌≡◌, refl, ℕ, Bool, true, false, List, [], ◌∷◌, ◌++◌, length}
+use Rattle.std.proofs.Common.{◌∙◌, ap}
 use Rattle.std.proofs.lemmas.List.{append-nil}
-use Rattle.source.specs.declared.word.Word.{Word as CoreWord}
 use Rattle.source.specs.declared.word.Word.TheVariants as core
 use Rattle.source.specs.Tree as tree
 use Rattle.source.specs.Tree.{Name}
@@ -12,14 +11,14 @@ use Rattle.surface.specs.declared.word.Word.TheVariants as word
 use Rattle.surface.specs.Tree.{Expr, If, Body, Tests, Last, Else}
 use Rattle.surface.specs.Constants.{place_of}
 use Rattle.surface.specs.Rules.{is_number}
-use Rattle.surface.specs.Making.{Held, Made, chained}
+use Rattle.surface.specs.Making.{Made, chained}
 use Rattle.surface.specs.CoreForms as forms
 use Rattle.surface.specs.Desugar.{Setting, atom, desugar, desugar_body, desugar_tests}
 use Rattle.desugar.specs.declared.frame.Atom.{Atom}
 use Rattle.desugar.specs.declared.frame.Frame.{Frame}
 use Rattle.desugar.specs.declared.frame.Frame.TheVariants as frame
 use Rattle.desugar.specs.declared.frame.Given.{Given}
-use Rattle.desugar.specs.Forms.{atom_words, or_else}
+use Rattle.desugar.specs.Forms.{atom_words}
 use Rattle.desugar.specs.Steps.{State, said, plain, atom_of, when_opened, steps}
 use Rattle.desugar.specs.Noted.{noted, noted_body, noted_tests, o}
 use Rattle.desugar.proofs.Held.{held, state, same, on}
@@ -27,7 +26,7 @@ use Rattle.desugar.specs.StepsDesugar.{names_in}
 use Rattle.desugar.proofs.Atoms.{self_of, IsCut, cut_is, stands}
 use Rattle.desugar.proofs.Lists.{if_lists, last_lists, else_lists}
 use Rattle.desugar.proofs.Over.{Over}
-use Rattle.desugar.proofs.Bodies.{Ends, Gives, ending, OverBody, OverTests, body_lets, chained_is}
+use Rattle.desugar.proofs.Bodies.{Ends, Gives, OverBody, OverTests, body_lets, chained_is}
 
 pub over_if : (s : Setting) (t : Bool) (at : ℕ) (p : Expr) (l r : Body) → Over s false p → OverBody s false l → OverBody s true r → Over s t (If at p l r)
 over_if s t at p l r h k j ws ls g ns fs st =

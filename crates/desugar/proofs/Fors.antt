@@ -1,30 +1,28 @@
 -- COUNTING LOOPS
-use Rattle.std.specs.Prelude.{◌≡◌, refl, ℕ, suc, ◌+◌, Bool, true, false, List, [], ◌∷◌, ◌++◌, length, map, take, drop, Option, None, Some, ⊤}
+use Rattle.std.specs.Prelude.{◌≡◌, refl, ℕ, suc, ◌+◌, Bool, false, List, [], ◌∷◌, ◌++◌, length, map, Option, None, Some, ⊤}
 use Rattle.std.proofs.Common.{◌∙◌, ap, ap₂, sym, append_assoc}
 use Rattle.std.proofs.lemmas.List.{append-nil}
 use Rattle.std.proofs.Math.Seq.{take-length, drop-length, take-append_seam, drop-append_seam}
 use Rattle.operators.specs.declared.Binary.TheVariants.{Add, Lt}
 use Rattle.source.specs.declared.word.InfixSign.TheVariants.{Direct}
-use Rattle.source.specs.declared.word.Word.{Word as CoreWord}
 use Rattle.source.specs.declared.word.Word.TheVariants as core
 use Rattle.source.specs.Tree as tree
-use Rattle.source.specs.Tree.{Name, NameAt, NumberAt}
+use Rattle.source.specs.Tree.{Name, NameAt}
 use Rattle.source.specs.Fits.{level}
 use Rattle.source.specs.Outside.{bare}
 use Rattle.source.specs.Words as core_words
 use Rattle.source.specs.Words.{Words, words, part_words, first_words, body_words}
-use Rattle.surface.specs.declared.word.Word.{Word}
 use Rattle.surface.specs.declared.word.Word.TheVariants as word
 use Rattle.surface.specs.Words.{bound_words}
 use Rattle.surface.specs.Tree.{Count, Written, Constant, Expr, For, Exprs, One, More, Body, Carried, Nothing, With, carried_names}
 use Rattle.surface.specs.Fits.{count}
 use Rattle.surface.specs.Known.{lookup}
-use Rattle.surface.specs.Constants.{place_of, counted}
+use Rattle.surface.specs.Constants.{place_of}
 use Rattle.surface.specs.Rules.{is_number}
 use Rattle.surface.specs.Making.{Held, Made, hidden, target}
 use Rattle.surface.specs.CoreForms as forms
-use Rattle.surface.specs.CoreForms.{infix_at, named_all}
-use Rattle.surface.specs.Desugar.{Setting, atom, as_name, bound_or_four, desugar, desugar_body, desugar_for, desugar_atoms}
+use Rattle.surface.specs.CoreForms.{named_all}
+use Rattle.surface.specs.Desugar.{Setting, atom, as_name, bound_or_four, desugar, desugar_body, desugar_atoms}
 use Rattle.desugar.specs.declared.frame.Atom.{Atom}
 use Rattle.desugar.specs.declared.frame.Atom.TheVariants as an
 use Rattle.desugar.specs.declared.frame.Counting.{Counting}
@@ -34,7 +32,7 @@ use Rattle.desugar.specs.declared.frame.Given.{Given}
 use Rattle.desugar.specs.Forms.{atom_words, atom_level, brackets, goes_on, carried_firsts, all_bound, all_named, all_given}
 use Rattle.desugar.specs.Steps as step
 use Rattle.desugar.specs.Steps.{State, plain, atom_of, from, unless_hidden, name_made, loop_begins, some_turn, where_it_goes, turns_open, after_turns, steps}
-use Rattle.desugar.specs.Noted.{Noted, noted, noted_body, noted_firsts, noted_carried, hidden_by, all_bare, o}
+use Rattle.desugar.specs.Noted.{Noted, noted, noted_body, noted_firsts, hidden_by, all_bare}
 use Rattle.desugar.proofs.Held.{held, held-append, state, same, on}
 use Rattle.desugar.specs.StepsDesugar.{names_in}
 use Rattle.desugar.proofs.Atoms.{self_of, IsAtom, IsCut, cut_is, IsNamed, named_is, stands, stands_hidden}

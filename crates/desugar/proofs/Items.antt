@@ -1,10 +1,9 @@
 -- ITEMS, and programs of them
-use Rattle.std.specs.Prelude.{◌≡◌, refl, ℕ, zero, suc, ◌==◌, ◌&&◌, Bool, true, false, List, [], ◌∷◌, ◌++◌, length, map, take, Option, None, Some, Ok, if◌then◌else◌}
-use Rattle.std.proofs.Common.{◌∙◌, ap, ap₂, sym, append_assoc}
+use Rattle.std.specs.Prelude.{◌≡◌, refl, ℕ, ◌==◌, ◌&&◌, Bool, true, false, List, [], ◌∷◌, ◌++◌, length, map, take, Option, None, Some, Ok, if◌then◌else◌}
+use Rattle.std.proofs.Common.{◌∙◌, ap, sym, append_assoc}
 use Rattle.std.proofs.lemmas.Bool.{eqb-true}
 use Rattle.std.proofs.lemmas.List.{append-nil}
 use Rattle.std.proofs.Math.Seq.{take-append_seam}
-use Rattle.source.specs.declared.word.Word.{Word as CoreWord}
 use Rattle.source.specs.declared.word.Word.TheVariants as core
 use Rattle.source.specs.Tree as tree
 use Rattle.source.specs.Tree.{Name, NameAt}
@@ -21,11 +20,9 @@ use Rattle.surface.specs.Making.{Made}
 use Rattle.surface.specs.Desugar.{Setting, desugar, desugar_body}
 use Rattle.surface.specs.Instances.{arrays_for, in_function, text_names, hidden_prefix}
 use Rattle.surface.specs.Desugared.{core_results, core_function, instances_of, core_items, desugared}
-use Rattle.desugar.specs.declared.frame.Atom.{Atom}
 use Rattle.desugar.specs.declared.frame.Frame.{Frame}
 use Rattle.desugar.specs.declared.frame.Frame.TheVariants as frame
-use Rattle.desugar.specs.declared.frame.Given.{Given}
-use Rattle.desugar.specs.Steps.{State, cut_off, steps}
+use Rattle.desugar.specs.Steps.{steps}
 use Rattle.desugar.specs.Noted.{noted, noted_body, noted_lengths, noted_item, noted_program, all_bare, o}
 use Rattle.desugar.specs.Plain.{ArePlain, IsPlainItem, IsPlainProgram}
 use Rattle.desugar.specs.StepsDesugar.{names_in, plain_setting, with_words, IsDone}

@@ -1,36 +1,36 @@
 -- WHAT STEPS LEAVE OF THE WORDS OF A PART: what the part is in the core, and the `let`s that it holds.
-use Rattle.std.specs.Prelude.{◌≡◌, refl, ℕ, zero, suc, ◌+◌, ◌||◌, nat_lt, Bool, true, false, ℤ, pos, negsuc, List, [], ◌∷◌, ◌++◌, length, map}
+use Rattle.std.specs.Prelude.{◌≡◌, refl, ℕ, ◌+◌, ◌||◌, nat_lt, Bool, true, false, ℤ, pos, negsuc, List, [], ◌∷◌, ◌++◌, length}
 use Rattle.std.specs.Prelude.{Option, None, Some, if◌then◌else◌}
-use Rattle.std.proofs.Common.{◌∙◌, ap, ap₂, sym, append_assoc}
+use Rattle.std.proofs.Common.{◌∙◌, ap, sym, append_assoc}
 use Rattle.std.proofs.lemmas.List.{append-nil}
 use Rattle.operators.specs.declared.Unary.{Unary}
-use Rattle.operators.specs.declared.Binary.TheVariants.{Eq, Or as BitOr}
+use Rattle.operators.specs.declared.Binary.TheVariants.{Eq}
 use Rattle.source.specs.declared.word.InfixSign.{InfixSign}
 use Rattle.source.specs.declared.word.InfixSign.TheVariants.{Direct}
 use Rattle.source.specs.declared.word.Word.{Word as CoreWord}
 use Rattle.source.specs.declared.word.Word.TheVariants as core
 use Rattle.source.specs.Tree as tree
 use Rattle.source.specs.Tree.{Name}
-use Rattle.source.specs.Fits.{level, sign_level, left_level}
-use Rattle.source.specs.Words.{Words, words, part_words, body_words}
+use Rattle.source.specs.Fits.{level}
+use Rattle.source.specs.Words.{Words, words, part_words}
 use Rattle.surface.specs.declared.word.Word.TheVariants as word
-use Rattle.surface.specs.Tree.{Expr, Number, Named, Bracket, Prefix, Infix, And, Or, Not, Fetch, Store, Call, If, Loop, For, Exprs, One, More}
+use Rattle.surface.specs.Tree.{Expr, Number, Named, Bracket, Prefix, Infix, Not, Exprs, One, More}
 use Rattle.surface.specs.Known.{lookup}
 use Rattle.surface.specs.Constants.{place_of}
 use Rattle.surface.specs.Rules.{is_number}
-use Rattle.surface.specs.Making.{Held, Made, under}
-use Rattle.surface.specs.CoreForms.{at_level, infix_at}
-use Rattle.surface.specs.Desugar.{Setting, constant_or_value, atom, desugar, desugar_all}
+use Rattle.surface.specs.Making.{Held, Made}
+use Rattle.surface.specs.CoreForms.{at_level}
+use Rattle.surface.specs.Desugar.{Setting, constant_or_value, desugar, desugar_all}
 use Rattle.desugar.specs.declared.frame.Atom.{Atom}
 use Rattle.desugar.specs.declared.frame.Frame.{Frame}
 use Rattle.desugar.specs.declared.frame.Frame.TheVariants as frame
 use Rattle.desugar.specs.declared.frame.Given.{Given}
-use Rattle.desugar.specs.Forms.{atom_words, atom_level, brackets, left_end, right_end, given_end, giving, or_else}
-use Rattle.desugar.specs.Steps.{Names, State, said, plain, named, atom_of, and_opened, or_opened, left_or_zero, settled, steps}
-use Rattle.desugar.specs.Noted.{Noted, noted, noted_parts, o}
-use Rattle.desugar.proofs.Held.{held, held-append, under_words, state, same, on, settled_at}
+use Rattle.desugar.specs.Forms.{brackets}
+use Rattle.desugar.specs.Steps.{State, named, steps}
+use Rattle.desugar.specs.Noted.{noted, noted_parts, o}
+use Rattle.desugar.proofs.Held.{held, held-append, state, same, on}
 use Rattle.desugar.specs.StepsDesugar.{names_in}
-use Rattle.desugar.proofs.Atoms.{named_self, self_of, IsAtom, Stands, IsCut, cut_is, stands}
+use Rattle.desugar.proofs.Atoms.{named_self, self_of}
 
 -- the value that a part leaves
 abbrev pub value : Setting → Expr → Made tree.Expr → Words → Words → List (Given Name) → List (Atom Name) → List (Frame Name) → State Name

@@ -1,10 +1,9 @@
 -- `and` AND `or`
 use Rattle.std.specs.Prelude.{◌≡◌, refl, ℕ, Bool, true, false, List, [], ◌∷◌, ◌++◌, length, Option, None, Some}
-use Rattle.std.proofs.Common.{◌∙◌, ap, sym, append_assoc}
+use Rattle.std.proofs.Common.{◌∙◌, ap, sym}
 use Rattle.std.proofs.lemmas.List.{append-nil}
 use Rattle.operators.specs.declared.Binary.TheVariants.{Or as BitOr}
 use Rattle.source.specs.declared.word.InfixSign.TheVariants.{Direct}
-use Rattle.source.specs.declared.word.Word.{Word as CoreWord}
 use Rattle.source.specs.declared.word.Word.TheVariants as core
 use Rattle.source.specs.Tree as tree
 use Rattle.source.specs.Tree.{Name}
@@ -15,20 +14,19 @@ use Rattle.surface.specs.Tree.{Expr, And, Or}
 use Rattle.surface.specs.Constants.{place_of}
 use Rattle.surface.specs.Rules.{is_number}
 use Rattle.surface.specs.Making.{Held, Made, under}
-use Rattle.surface.specs.CoreForms.{at_level, infix_at}
+use Rattle.surface.specs.CoreForms.{infix_at}
 use Rattle.surface.specs.Desugar.{Setting, atom, desugar}
 use Rattle.desugar.specs.declared.frame.Atom.{Atom}
 use Rattle.desugar.specs.declared.frame.Frame.{Frame}
 use Rattle.desugar.specs.declared.frame.Frame.TheVariants as frame
-use Rattle.desugar.specs.declared.frame.Given.{Given}
 use Rattle.desugar.specs.Forms.{atom_words, atom_level, brackets, left_end, right_end, given_end, giving, or_else}
 use Rattle.desugar.specs.Steps.{State, plain, atom_of, and_opened, or_opened, steps}
 use Rattle.desugar.specs.Noted.{noted}
 use Rattle.desugar.proofs.Held.{held, under_words, state, same, on, settled_at}
 use Rattle.desugar.specs.StepsDesugar.{names_in}
-use Rattle.desugar.proofs.Atoms.{self_of, IsAtom, IsCut, cut_is, stands}
+use Rattle.desugar.proofs.Atoms.{self_of, IsCut, cut_is, stands}
 use Rattle.desugar.proofs.Lists.{true_lists, false_lists, or_lists}
-use Rattle.desugar.proofs.Over.{Over, two_lets, at_level_words}
+use Rattle.desugar.proofs.Over.{Over, at_level_words}
 
 -- the words of a body that gives one value, with its `let`s
 pub inside_words : (ls : List Held) (x : tree.Expr) → body_words (under (ls ++ []) (tree.Give (tree.One x))) ≡ held ls ++ (core.List ∷ words x ++ core.Part ∷ [] ++ core.Give ∷ [])

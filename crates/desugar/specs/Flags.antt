@@ -1,7 +1,7 @@
 -- THE FLAGS OF WORDS, from the end: what a word has to know of words after it. Of the left operand of `and`, whether only its truth is
 -- asked; of the arm of an `if`, whether there is no last `else`; of the number at which a `for` stops, whether it is a name of what the
 -- `for` carries; and of a part of a list, whether it is a length of an array.
-use Rattle.std.specs.Prelude.{ℕ, Bool, true, false, List, [], ◌∷◌, Option, None, Some}
+use Rattle.std.specs.Prelude.{Bool, true, false, List, [], ◌∷◌, Option, Some}
 use Rattle.std.specs.List.{list_any}
 use Rattle.source.specs.declared.word.Word.{Word as CoreWord}
 use Rattle.source.specs.declared.word.Word.TheVariants as core

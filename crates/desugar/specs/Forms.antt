@@ -1,9 +1,9 @@
 -- FORMS OF THE CORE, AS WORDS: those that derived forms are made of.
-use Rattle.std.specs.Prelude.{ℕ, zero, suc, nat_lt, Bool, true, false, List, [], ◌∷◌, ◌++◌, replicate, Option, None, Some, if◌then◌else◌}
+use Rattle.std.specs.Prelude.{ℕ, zero, suc, nat_lt, Bool, true, List, [], ◌∷◌, ◌++◌, replicate, Option, None, Some, if◌then◌else◌}
 use Rattle.operators.specs.declared.Unary.{Unary}
-use Rattle.operators.specs.declared.Unary.TheVariants.{Neg, Not}
+use Rattle.operators.specs.declared.Unary.TheVariants.{Neg}
 use Rattle.operators.specs.declared.Binary.{Binary}
-use Rattle.operators.specs.declared.Binary.TheVariants.{Add, Lt, Or}
+use Rattle.operators.specs.declared.Binary.TheVariants.{Lt}
 use Rattle.source.specs.declared.word.InfixSign.TheVariants.{Direct}
 use Rattle.source.specs.declared.word.Word.{Word}
 use Rattle.source.specs.declared.word.Word.TheVariants as word

@@ -1,5 +1,5 @@
 -- PROGRAMS that call nothing that is built in, no function with parameters for arrays, and whose arrays have one dimension.
-use Rattle.std.specs.Prelude.{◌≡◌, ℕ, true, [], ◌∷◌, ⊤}
+use Rattle.std.specs.Prelude.{◌≡◌, true, [], ◌∷◌, ⊤}
 use Rattle.surface.specs.Tree.{Expr, Number, Named, Bracket, Prefix, Infix, And, Or, Not, Fetch, Store, Call, If, Loop, For}
 use Rattle.surface.specs.Tree.{Exprs, One, More, Body, Let, Do, When, Give, Chain, Tests, Last, Else, Turn, Before, After, Carried, Nothing, With}
 use Rattle.surface.specs.Tree.{Item, Cells, Const, Defines, Program}
