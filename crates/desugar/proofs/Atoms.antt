@@ -29,7 +29,7 @@ use Rattle.desugar.specs.Forms.{atom_words, atom_level, bracketed, negated, let_
 use Rattle.desugar.specs.Steps.{Names, cut, atom_of, unless_hidden, name_left, name_made}
 use Rattle.desugar.specs.StepsDesugar.{names_in}
 use Rattle.desugar.proofs.Held.{held, held_words, held-append, state, same}
-use Rattle.desugar.specs.Noted.{hidden_by}
+use Rattle.desugar.proofs.Noted.{hidden_by}
 
 abbrev pub named_self : ℕ → Name → Option ℤ → Option (Atom Name)
 named_self at x None = Some (an.Name at x)

@@ -24,7 +24,7 @@ use Rattle.desugar.specs.declared.frame.Given.{Given}
 use Rattle.desugar.specs.Forms.{atom_words, given_end, giving}
 use Rattle.desugar.specs.Steps as step
 use Rattle.desugar.specs.Steps.{State, plain, settled, next_statement, finished, steps}
-use Rattle.desugar.specs.Noted.{noted, noted_parts, noted_body, noted_tests, all_bare, o}
+use Rattle.desugar.proofs.Noted.{noted, noted_parts, noted_body, noted_tests, all_bare, o}
 use Rattle.desugar.proofs.Held.{held, under_words, state, same, on, settled_at}
 use Rattle.desugar.specs.StepsDesugar.{names_in}
 use Rattle.desugar.proofs.Atoms.{IsAtom}

@@ -14,7 +14,7 @@ use Rattle.surface.specs.Making.{Made}
 use Rattle.std.specs.Prelude.{Option}
 use Rattle.desugar.specs.declared.frame.Frame.TheVariants as frame
 use Rattle.desugar.specs.Plain.{Ordinary}
-use Rattle.desugar.specs.Noted.{noted, noted_parts, o}
+use Rattle.desugar.proofs.Noted.{noted, noted_parts, o}
 use Rattle.desugar.proofs.Held.{held, same, on}
 use Rattle.desugar.specs.StepsDesugar.{names_in}
 use Rattle.desugar.proofs.Lists.{call_lists, fetch_lists, store_lists}

@@ -23,7 +23,7 @@ use Rattle.desugar.specs.declared.frame.Frame.TheVariants as frame
 use Rattle.desugar.specs.declared.frame.Given.{Given}
 use Rattle.desugar.specs.Forms.{carried_firsts, all_bound, all_named, all_given}
 use Rattle.desugar.specs.Steps.{State, atom_of, steps}
-use Rattle.desugar.specs.Noted.{noted, noted_firsts, o}
+use Rattle.desugar.proofs.Noted.{noted, noted_firsts, o}
 use Rattle.desugar.proofs.Held.{held, state, on}
 use Rattle.desugar.specs.StepsDesugar.{names_in}
 use Rattle.desugar.proofs.Atoms.{self_of, IsAtom, IsCut, cut_is, stands}

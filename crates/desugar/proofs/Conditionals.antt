@@ -20,7 +20,7 @@ use Rattle.desugar.specs.declared.frame.Frame.TheVariants as frame
 use Rattle.desugar.specs.declared.frame.Given.{Given}
 use Rattle.desugar.specs.Forms.{atom_words}
 use Rattle.desugar.specs.Steps.{State, said, plain, atom_of, when_opened, steps}
-use Rattle.desugar.specs.Noted.{noted, noted_body, noted_tests, o}
+use Rattle.desugar.proofs.Noted.{noted, noted_body, noted_tests, o}
 use Rattle.desugar.proofs.Held.{held, state, same, on}
 use Rattle.desugar.specs.StepsDesugar.{names_in}
 use Rattle.desugar.proofs.Atoms.{self_of, IsCut, cut_is, stands}

@@ -32,7 +32,7 @@ use Rattle.desugar.specs.declared.frame.Given.{Given}
 use Rattle.desugar.specs.Forms.{atom_words, atom_level, brackets, goes_on, carried_firsts, all_bound, all_named, all_given}
 use Rattle.desugar.specs.Steps as step
 use Rattle.desugar.specs.Steps.{State, plain, atom_of, from, unless_hidden, name_made, loop_begins, some_turn, where_it_goes, turns_open, after_turns, steps}
-use Rattle.desugar.specs.Noted.{Noted, noted, noted_body, noted_firsts, hidden_by, all_bare}
+use Rattle.desugar.proofs.Noted.{Noted, noted, noted_body, noted_firsts, hidden_by, all_bare}
 use Rattle.desugar.proofs.Held.{held, held-append, state, same, on}
 use Rattle.desugar.specs.StepsDesugar.{names_in}
 use Rattle.desugar.proofs.Atoms.{self_of, IsAtom, IsCut, cut_is, IsNamed, named_is, stands, stands_hidden}

@@ -12,7 +12,7 @@ use Rattle.desugar.specs.declared.frame.Atom.{Atom}
 use Rattle.desugar.specs.declared.frame.Frame.{Frame}
 use Rattle.desugar.specs.declared.frame.Given.{Given}
 use Rattle.desugar.specs.Steps.{Names, State, settled, step, steps}
-use Rattle.desugar.specs.Noted.{Noted}
+use Rattle.desugar.proofs.Noted.{Noted}
 
 abbrev pub held_words : Held → Words
 held_words l = core.Let l.at ∷ map target_word l.targets ++ core.List ∷ part_words l.values ++ core.EndLet l.at ∷ []

@@ -23,7 +23,7 @@ use Rattle.surface.specs.Desugared.{core_results, core_function, instances_of, c
 use Rattle.desugar.specs.declared.frame.Frame.{Frame}
 use Rattle.desugar.specs.declared.frame.Frame.TheVariants as frame
 use Rattle.desugar.specs.Steps.{steps}
-use Rattle.desugar.specs.Noted.{noted, noted_body, noted_lengths, noted_item, noted_program, all_bare, o}
+use Rattle.desugar.proofs.Noted.{Noted, noted, noted_body, noted_lengths, noted_item, noted_program, all_bare, o}
 use Rattle.desugar.specs.Plain.{ArePlain, IsPlainItem, IsPlainProgram}
 use Rattle.desugar.specs.StepsDesugar.{names_in, plain_setting, with_words, IsDone}
 use Rattle.desugar.proofs.Held.{held, state, same, on}
@@ -33,6 +33,7 @@ use Rattle.desugar.proofs.Lists.{function_lists}
 use Rattle.desugar.proofs.Loops.{count_is}
 use Rattle.desugar.proofs.Trees.{over, over_body}
 use Rattle.desugar.proofs.Wanted.{plain_desugared}
+use Rattle.desugar.proofs.Flags.{program_flags}
 
 -- LENGTHS: what is made of them is cut off.
 record Lengths (s : Setting) (es : Exprs) (ws ls : Words) (g w l last : ℕ) (x : Name) (st : List (Frame Name)) : Type 0 where
@@ -204,4 +205,8 @@ pub steps_desugar : (p : Program) (known : Known) (q : tree.Program) → FitsPro
 steps_desugar p known q f e h d =
     let r : ProgramDone (plain_setting known (hidden_prefix (text_names p))) p [] 0 = over_program known (hidden_prefix (text_names p)) p f h [] 0 in
     let k : core_items (plain_setting known (hidden_prefix (text_names p))) p ≡ q = cc (plain_desugared p known e h) in
-    record { given = r.given; words = r.left ∙ ap (λ (z : tree.Program). with_words (program_words z) r.given) k }
+    record {
+      given = r.given;
+      words = ap (λ (z : Noted). steps (names_in (plain_setting known (hidden_prefix (text_names p)))) (with_words [] 0) z) (program_flags p f) ∙ r.left
+          ∙ ap (λ (z : tree.Program). with_words (program_words z) r.given) k;
+    }

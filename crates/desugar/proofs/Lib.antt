@@ -1,3 +1,4 @@
+pub mod Noted
 pub mod Held
 pub mod Atoms
 pub mod Lists
@@ -11,5 +12,7 @@ pub mod Carried
 pub mod Fors
 pub mod Trees
 pub mod Wanted
+pub mod Passes
+pub mod Ends
+pub mod Flags
 pub mod Items
-pub mod SampleFlags

@@ -27,7 +27,7 @@ use Rattle.desugar.specs.declared.frame.Given.{Given}
 use Rattle.desugar.specs.Forms.{given_end, or_else}
 use Rattle.desugar.specs.Steps as step
 use Rattle.desugar.specs.Steps.{State, said, plain, body_opened, natural, steps}
-use Rattle.desugar.specs.Noted.{Noted, noted, noted_body, noted_firsts, noted_turn, all_bare, o}
+use Rattle.desugar.proofs.Noted.{Noted, noted, noted_body, noted_firsts, noted_turn, all_bare, o}
 use Rattle.desugar.proofs.Held.{held, under_words, state, same, on, settled_at}
 use Rattle.desugar.specs.StepsDesugar.{names_in}
 use Rattle.desugar.proofs.Lists.{one_first, more_firsts, test_lists, before_lists, after_lists, loop_lists}

@@ -27,7 +27,7 @@ use Rattle.desugar.specs.declared.frame.Frame.TheVariants as frame
 use Rattle.desugar.specs.declared.frame.Given.{Given}
 use Rattle.desugar.specs.Forms.{brackets}
 use Rattle.desugar.specs.Steps.{State, named, steps}
-use Rattle.desugar.specs.Noted.{noted, noted_parts, o}
+use Rattle.desugar.proofs.Noted.{noted, noted_parts, o}
 use Rattle.desugar.proofs.Held.{held, held-append, state, same, on}
 use Rattle.desugar.specs.StepsDesugar.{names_in}
 use Rattle.desugar.proofs.Atoms.{named_self, self_of}

@@ -21,7 +21,7 @@ use Rattle.desugar.specs.declared.frame.Frame.{Frame}
 use Rattle.desugar.specs.declared.frame.Frame.TheVariants as frame
 use Rattle.desugar.specs.Forms.{atom_words, atom_level, brackets, left_end, right_end, given_end, giving, or_else}
 use Rattle.desugar.specs.Steps.{State, plain, atom_of, and_opened, or_opened, steps}
-use Rattle.desugar.specs.Noted.{noted}
+use Rattle.desugar.proofs.Noted.{noted}
 use Rattle.desugar.proofs.Held.{held, under_words, state, same, on, settled_at}
 use Rattle.desugar.specs.StepsDesugar.{names_in}
 use Rattle.desugar.proofs.Atoms.{self_of, IsCut, cut_is, stands}

@@ -18,6 +18,8 @@ pub data Opened (N : Type 0) : Type 0 where
   -- a `for`: the names that it carries
   Carries : (names : List N) → Opened N
   Lengths : Opened N
+  -- the arguments of a call, also of one in a length
+  Arguments : Opened N
 
 -- The flag says whether only the truth is asked of the expression that ends here.
 pub record Look (N : Type 0) : Type 0 where
@@ -34,15 +36,15 @@ abbrev closes : {N : Type 0} → List (Opened N) → List (Opened N)
 closes [] = []
 closes (x ∷ outer) = outer
 
-abbrev asked : {N : Type 0} → List (Opened N) → Bool
+abbrev pub asked : {N : Type 0} → List (Opened N) → Bool
 asked (Operand truth ∷ outer) = truth
 asked outer = false
 
-abbrev is_when : {N : Type 0} → List (Opened N) → Bool
+abbrev pub is_when : {N : Type 0} → List (Opened N) → Bool
 is_when (Arm b ∷ outer) = b
 is_when outer = false
 
-abbrev are_lengths : {N : Type 0} → List (Opened N) → Bool
+abbrev pub are_lengths : {N : Type 0} → List (Opened N) → Bool
 are_lengths (Lengths ∷ outer) = true
 are_lengths outer = false
 
@@ -50,7 +52,7 @@ abbrev started : {N : Type 0} → N → List (Opened N) → List (Opened N)
 started x (Carries names ∷ outer) = Carries (x ∷ names) ∷ outer
 started x outer = outer
 
-abbrev is_carried : {N : Type 0} → (N → N → Bool) → Option (Word N) → List (Opened N) → Bool
+abbrev pub is_carried : {N : Type 0} → (N → N → Bool) → Option (Word N) → List (Opened N) → Bool
 is_carried same (Some (word.Core (core.Name at x))) (Carries names ∷ outer) = list_any (same x) names
 is_carried same before outer = false
 
@@ -64,6 +66,8 @@ core_before (core.Start at x) k = record { truth = false; outer = started x k.ou
 core_before (core.EndIf at) k = opens k false (Arm false)
 core_before core.Then k = record { truth = false; outer = closes k.outer }
 core_before (core.Array at x) k = record { truth = false; outer = closes k.outer }
+core_before (core.Call at strict f) k = opens k false Arguments
+core_before (core.Callee at f) k = record { truth = false; outer = closes k.outer }
 core_before w k = record k { truth = false }
 
 abbrev pub before : {N : Type 0} → Word N → Look N → Look N
