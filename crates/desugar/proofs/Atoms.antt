@@ -1,5 +1,5 @@
 -- ATOMS: what stands for itself, as the steps know it, is what the definition says.
-use Rattle.std.specs.Prelude.{◌≡◌, refl, ℕ, zero, suc, ◌+◌, ◌&&◌, ◌||◌, not, Bool, true, false, ℤ, pos, negsuc, List, [], ◌∷◌, ◌++◌, length}
+use Rattle.std.specs.Prelude.{◌≡◌, refl, ℕ, zero, suc, ◌&&◌, ◌||◌, Bool, true, false, ℤ, pos, negsuc, List, [], ◌∷◌, ◌++◌, length}
 use Rattle.std.specs.Prelude.{replicate, is_some, Option, None, Some, if◌then◌else◌}
 use Rattle.std.proofs.Common.{◌∙◌, ap, sym, append_assoc}
 use Rattle.std.proofs.lemmas.List.{append-nil}
@@ -19,7 +19,6 @@ use Rattle.surface.specs.Known.{lookup}
 use Rattle.surface.specs.Constants.{place_of}
 use Rattle.surface.specs.Rules.{is_number, is_neg, is_numeral}
 use Rattle.surface.specs.Making.{Made, made, hidden, target, bound_to}
-use Rattle.surface.specs.CoreForms.{numeral}
 use Rattle.surface.specs.Desugar.{Setting, as_name, constant_or_value, stands_for_itself, atom, desugar}
 use Rattle.desugar.specs.declared.frame.Atom.{Atom}
 use Rattle.desugar.specs.declared.frame.Atom.TheVariants as an

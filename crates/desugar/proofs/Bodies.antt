@@ -29,7 +29,7 @@ use Rattle.desugar.proofs.Held.{held, under_words, state, same, on, settled_at}
 use Rattle.desugar.specs.StepsDesugar.{names_in}
 use Rattle.desugar.proofs.Atoms.{IsAtom}
 use Rattle.desugar.proofs.Lists.{plain_lists, gives_lists, first_lists, rest_lists, let_lists, let_all, when_lists, chain_lists}
-use Rattle.desugar.proofs.Over.{Over, OverParts, value}
+use Rattle.desugar.proofs.Over.{Over, OverParts}
 
 -- WHAT A BODY GIVES, where it is made: its own values, this one, or this one before them
 pub data Ending : Type 0 where

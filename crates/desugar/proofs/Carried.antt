@@ -8,7 +8,6 @@ use Rattle.source.specs.Tree.{Name, NameAt}
 use Rattle.source.specs.Fits.{level}
 use Rattle.source.specs.Words as core_words
 use Rattle.source.specs.Words.{Words, words, part_words, first_words}
-use Rattle.surface.specs.declared.word.Word.TheVariants as word
 use Rattle.surface.specs.Tree.{Expr, Exprs, One, More}
 use Rattle.surface.specs.Fits.{count}
 use Rattle.surface.specs.Constants.{place_of}

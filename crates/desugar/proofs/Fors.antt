@@ -30,7 +30,6 @@ use Rattle.desugar.specs.declared.frame.Frame.{Frame}
 use Rattle.desugar.specs.declared.frame.Frame.TheVariants as frame
 use Rattle.desugar.specs.declared.frame.Given.{Given}
 use Rattle.desugar.specs.Forms.{atom_words, atom_level, brackets, goes_on, carried_firsts, all_bound, all_named, all_given}
-use Rattle.desugar.specs.Steps as step
 use Rattle.desugar.specs.Steps.{State, plain, atom_of, from, unless_hidden, name_made, loop_begins, some_turn, where_it_goes, turns_open, after_turns, steps}
 use Rattle.desugar.proofs.Noted.{Noted, noted, noted_body, noted_firsts, hidden_by, all_bare}
 use Rattle.desugar.proofs.Held.{held, held-append, state, same, on}

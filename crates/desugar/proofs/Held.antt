@@ -1,5 +1,5 @@
 -- `let`s as words, and states.
-use Rattle.std.specs.Prelude.{◌≡◌, refl, ℕ, List, [], ◌∷◌, ◌++◌, map, length, Option}
+use Rattle.std.specs.Prelude.{◌≡◌, refl, ℕ, List, [], ◌∷◌, ◌++◌, map, length}
 use Rattle.std.proofs.Common.{◌∙◌, ap, ap₂, sym, append_assoc}
 use Rattle.std.proofs.Math.Seq.{take-append_seam, drop-append_seam}
 use Rattle.source.specs.declared.word.Word.{Word as CoreWord}

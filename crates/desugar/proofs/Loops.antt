@@ -1,5 +1,5 @@
 -- LOOPS
-use Rattle.std.specs.Prelude.{◌≡◌, refl, ℕ, Bool, true, false, ℤ, pos, negsuc, List, [], ◌∷◌, ◌++◌, length, drop, Option, None, Some, Result, if◌then◌else◌}
+use Rattle.std.specs.Prelude.{◌≡◌, refl, ℕ, Bool, true, false, ℤ, pos, negsuc, List, [], ◌∷◌, ◌++◌, length, drop, Option, None, Some, if◌then◌else◌}
 use Rattle.std.proofs.Common.{◌∙◌, ap, sym, append_assoc}
 use Rattle.std.proofs.lemmas.List.{append-nil}
 use Rattle.std.proofs.Math.Seq.{drop-append_seam}
@@ -11,14 +11,13 @@ use Rattle.source.specs.Spelled.{others}
 use Rattle.source.specs.Words as core_words
 use Rattle.source.specs.Words.{Words, words, body_words, first_words, turn_words}
 use Rattle.surface.specs.declared.fault.FaultKind.TheVariants.{Core, BadConst}
-use Rattle.surface.specs.declared.word.Word.TheVariants as word
 use Rattle.surface.specs.Words.{start_words, bound_word, end_loop}
 use Rattle.surface.specs.Tree.{Count, Written, Constant, Expr, Loop, Exprs, One, More, Body, Turn, Before, After, names_of}
 use Rattle.surface.specs.First.{refused}
 use Rattle.surface.specs.Known.{Known, lookup}
 use Rattle.surface.specs.Constants.{place_of, constant_or, number_or_zero, counted}
 use Rattle.surface.specs.Making.{Held, Made}
-use Rattle.surface.specs.Desugar.{Setting, test_with, tested, desugar, desugar_all, desugar_body, desugar_turn}
+use Rattle.surface.specs.Desugar.{Setting, test_with, desugar, desugar_all, desugar_body, desugar_turn}
 use Rattle.desugar.specs.declared.frame.Atom.{Atom}
 use Rattle.desugar.specs.declared.frame.Finish.TheVariants as finish
 use Rattle.desugar.specs.declared.frame.Frame.{Frame}

@@ -1,5 +1,5 @@
 -- THE WORDS OF A TREE WITH THEIR FLAGS, as the pass from the end finds them.
-use Rattle.std.specs.Prelude.{Bool, true, false, List, [], ◌∷◌, ◌++◌, map, Option}
+use Rattle.std.specs.Prelude.{Bool, true, false, List, [], ◌∷◌, ◌++◌, map}
 use Rattle.source.specs.declared.word.Word.{Word as CoreWord}
 use Rattle.source.specs.declared.word.Word.TheVariants as core
 use Rattle.source.specs.Tree.{Name, NameAt}
@@ -7,10 +7,9 @@ use Rattle.source.specs.Spelled.{others}
 use Rattle.source.specs.Outside.{is_in, bare}
 use Rattle.surface.specs.declared.word.Word.{Word}
 use Rattle.surface.specs.declared.word.Word.TheVariants as word
-use Rattle.surface.specs.Tree.{Constant, Expr, Number, Named, Bracket, Prefix, Infix, And, Or, Not, Fetch, Store, Call, If, Loop, For}
+use Rattle.surface.specs.Tree.{Expr, Number, Named, Bracket, Prefix, Infix, And, Or, Not, Fetch, Store, Call, If, Loop, For}
 use Rattle.surface.specs.Tree.{Exprs, One, More, Body, Let, Do, When, Give, Chain, Tests, Last, Else, Turn, Before, After, Carried, Nothing, With}
-use Rattle.surface.specs.Tree.{Function, Item, Cells, Const, Defines, Program, names_of, carried_names}
-use Rattle.surface.specs.Words as words
+use Rattle.surface.specs.Tree.{Item, Cells, Const, Defines, Program, names_of, carried_names}
 use Rattle.surface.specs.Words.{target_word, start_words, bound_word, bound_words, end_loop, result_words, param_word}
 
 abbrev pub Noted : Type 0

@@ -1,6 +1,6 @@
 -- WHAT THE PASS FROM THE END MAKES OF A LIST OF WORDS, by what is open after them.
-use Rattle.std.specs.Prelude.{◌≡◌, refl, Bool, true, false, List, [], ◌∷◌, ◌++◌, Option, None, Some}
-use Rattle.std.proofs.Common.{◌∙◌, ap, ap₂, sym}
+use Rattle.std.specs.Prelude.{◌≡◌, refl, Bool, List, [], ◌∷◌, ◌++◌, Option, Some}
+use Rattle.std.proofs.Common.{◌∙◌, ap, ap₂}
 use Rattle.semantics.specs.Graph.{same_name}
 use Rattle.source.specs.Tree.{Name}
 use Rattle.surface.specs.declared.word.Word.{Word}

@@ -1,7 +1,7 @@
 -- THE DERIVED FORMS, WORD BY WORD. The words of a program are gone over once, each with a flag that a pass from the end has
 -- found. What is made stands in two lists: the words of the core, and those of the `let`s that go before the statements that
 -- are open. What is open, and the values that are made, are in a list of frames, the innermost first.
-use Rattle.std.specs.Prelude.{ℕ, suc, ◌+◌, ◌&&◌, ◌||◌, not, Bool, true, false, ℤ, pos, negsuc, List, [], ◌∷◌, ◌++◌, length, take, drop}
+use Rattle.std.specs.Prelude.{ℕ, suc, ◌+◌, ◌||◌, Bool, true, false, ℤ, pos, negsuc, List, [], ◌∷◌, ◌++◌, length, take, drop}
 use Rattle.std.specs.Prelude.{Option, None, Some, if◌then◌else◌}
 use Rattle.operators.specs.declared.Unary.{Unary}
 use Rattle.operators.specs.declared.Binary.TheVariants.{Add, Eq, Lt, Or}

@@ -1,5 +1,5 @@
 -- WHAT THE STEPS MAKE OF A PROGRAM: the words of the program of the core that it is short for.
-use Rattle.std.specs.Prelude.{◌≡◌, ℕ, ◌++◌, List, [], ◌∷◌, None, Ok}
+use Rattle.std.specs.Prelude.{◌≡◌, ℕ, [], None, Ok}
 use Rattle.semantics.specs.Graph.{same_name}
 use Rattle.source.specs.Tree as core
 use Rattle.source.specs.Tree.{Name}
