@@ -1,0 +1,5 @@
+pub mod Forms
+pub mod Steps
+pub mod Plain
+pub mod StepsDesugar
+pub mod Flags
