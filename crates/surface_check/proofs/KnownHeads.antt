@@ -1,0 +1,66 @@
+-- What is read from the words of code is what is known of the program.
+use Rattle.std.specs.Prelude.{◌≡◌, refl, ℕ, ◌<◌, ◌⊎◌, List, length, map, Option, None, Result, Ok, Err}
+use Rattle.std.proofs.Common.{◌∙◌, ap, sym, subst}
+use Rattle.source.specs.Tree.{Name}
+use Rattle.source.specs.Words.{name_of}
+use Rattle.surface.specs.declared.fault.Fault.{Fault}
+use Rattle.surface.specs.declared.word.Word.{Word}
+use Rattle.surface.specs.Tree.{Program}
+use Rattle.surface.specs.Words.{program_words, IsProgram}
+use Rattle.surface.specs.Known.{Known, nothing, lookup}
+use Rattle.surface.specs.Rules.{heads}
+use Rattle.surface_check.specs.declared.entry.Entry.{Entry}
+use Rattle.surface_check.specs.declared.heads.Head.TheVariants as open_head
+use Rattle.surface_check.specs.Heads.{Heads, no_heads, heads_read}
+use Rattle.surface_check.specs.Pins.{constant_in, array_in, signature_in}
+use Rattle.surface_check.specs.Renamed.{numbers_in, renamed}
+use Rattle.surface_check.specs.Table.{IsTable}
+use Rattle.surface_check.proofs.HeadsRead.{by_bytes, ReadAs, KnowsAll, heads_are_read}
+use Rattle.surface_check.proofs.RenamedHeads.{Both, IsBoth, heads_alike}
+use Rattle.surface_check.proofs.Numbering.{named_by, within, numbers_alike, all_renamed}
+
+abbrev pub TableAs : List Name → Result (Heads ℕ) Fault → Result Known Fault → Type 0
+TableAs names (Ok h) (Ok known) = IsTable names h.item h.ranks known
+TableAs names (Err f) (Err g) = f ≡ g
+TableAs names r q = ⊥
+
+pinned : {A : Type 0} (names : List Name) (f : Option Entry → Option A) (item : ℕ → Option Entry) (above : Name → Option Entry) (entries : Name → Option A)
+    → item ≡ (λ n. above (named_by names n)) → ((x : Name) → f (above x) ≡ entries x) → (n : ℕ) → n < length names
+    → f (item n) ≡ entries (name_of names n)
+pinned {A} names f item above entries e h n l = ap (λ (i : ℕ → Option Entry). f (i n)) e ∙ h (named_by names n) ∙ ap entries (within names n l)
+
+table_is : (names : List Name) (l : Heads ℕ) (k : Heads Name) (known : Known) → IsBoth (named_by names) l k
+    → KnowsAll k.item k.ranks k.arrays k.cells known → IsTable names l.item l.ranks known
+table_is names l k known b a =
+    let e : l.item ≡ (λ n. k.item (named_by names n)) = ap (λ (h : Heads ℕ). h.item) b.lower ∙ sym (ap (λ (h : Heads Name). λ (n : ℕ). h.item (named_by names
+    n)) b.higher) in
+    let r : l.ranks ≡ k.ranks = ap (λ (h : Heads ℕ). h.ranks) b.lower ∙ sym (ap (λ (h : Heads Name). h.ranks) b.higher) in
+    record {
+      constants = pinned names constant_in l.item k.item (lookup known.constants) e a.pins.constants;
+      arrays = pinned names array_in l.item k.item (lookup known.arrays) e a.pins.arrays;
+      functions = λ n h. ap (λ (rs : List ℕ). signature_in rs (l.item n)) r ∙ pinned names (signature_in k.ranks) l.item k.item (lookup known.functions) e
+          a.pins.functions n h;
+    }
+
+together : (names : List Name) (r : Result (Heads ℕ) Fault) (s : Result (Heads Name) Fault) (q : Result Known Fault) → Both (named_by names) r s → ReadAs s q
+    → TableAs names r q
+together names (Ok l) (Ok k) (Ok known) b a = table_is names l k known b a.0
+together names (Err e) (Err d) (Err f) b a = b ∙ a
+together names (Ok l) (Ok k) (Err f) b a = absurd a
+together names (Err e) (Err d) (Ok known) b a = absurd a
+together names (Ok l) (Err d) q b a = absurd b
+together names (Err e) (Ok k) q b a = absurd b
+
+pub heads_are_known : (names : List Name) (ws : List (Word ℕ)) (p : Program) → IsProgram names ws p
+    → TableAs names (heads_read (numbers_in names) no_heads ws) (heads nothing p)
+heads_are_known names ws p i =
+    let e : map (renamed (named_by names)) ws ≡ program_words p = sym (all_renamed names (named_by names) (λ n l. sym (within names n l)) ws i.words.known)
+    ∙ i.words.words in
+    together names (heads_read (numbers_in names) no_heads ws) (heads_read by_bytes no_heads (map (renamed (named_by names)) ws)) (heads nothing p)
+    (heads_alike (named_by names) (numbers_in names) by_bytes (numbers_alike names i.words.distinct) ws no_heads no_heads (record {
+      heads = no_heads;
+      open_now = open_head.Outside;
+      lower = refl;
+      higher = refl;
+    }))
+    (subst (λ (us : List (Word Name)). ReadAs (heads_read by_bytes no_heads us) (heads nothing p)) (sym e) (heads_are_read p i.fits))

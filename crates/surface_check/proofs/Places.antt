@@ -1,0 +1,18 @@
+-- Places of a table.
+use Rattle.std.specs.Prelude.{◌≡◌, refl, ℕ, ◌<◌, ◌==◌, Bool, true, false, List, length, slice_index_or, slice_set, Option, None, Some, if◌then◌else◌}
+use Rattle.std.proofs.Common.{◌∙◌}
+use Rattle.std.proofs.lemmas.Bool.{eqb-true, eqb-false}
+use Rattle.std.proofs.lemmas.List.{get_or-set_same, get_or-set_other}
+use Rattle.surface_check.specs.declared.entry.Entry.{Entry}
+use Rattle.surface_check.specs.Heads.{with_item}
+use Rattle.surface_check.specs.Renamed.{by_number}
+use Rattle.surface_check.specs.Table.{item_in}
+
+pub set_item : (entries grown : List (Option Entry)) (name : ℕ) (e : Entry) → ((n : ℕ) → slice_index_or grown n None ≡ slice_index_or entries n None)
+    → name < length grown
+    → item_in (slice_set grown name (Some e)) ≡ with_item by_number (item_in entries) name e
+set_item entries grown name e same room = λ i n. go n (n == name) refl i
+  where
+    go : (n : ℕ) (b : Bool) → (n == name) ≡ b → slice_index_or (slice_set grown name (Some e)) n None ≡ (if b then Some e else slice_index_or entries n None)
+    go n true d = rw (eqb-true n name d) (get_or-set_same grown name (Some e) None room)
+    go n false d = get_or-set_other grown name n (Some e) None (eqb-false n name d) ∙ same n

@@ -1,0 +1,10 @@
+use Rattle.std.specs.Prelude.{refl}
+use Rattle.surface_check.proofs.Balanced.{balanced, evaluate_append}
+use Rattle.surface_check.proofs.Evaluated.{parts_are}
+use Rattle.surface_check.proofs.HeadsRead.{heads_are_read}
+use Rattle.surface_check.proofs.RenamedHeads.{heads_alike}
+use Rattle.surface_check.proofs.KnownHeads.{heads_are_known}
+use Rattle.surface_check.proofs.probe.probe.Goals as goal
+
+pub returns : goal.returns
+returns c = record { law = record { law = λ n. refl } }

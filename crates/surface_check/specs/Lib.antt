@@ -1,0 +1,7 @@
+pub mod Evaluates
+pub mod Heads
+pub mod Pins
+pub mod Steps
+pub mod Renamed
+pub mod Table
+pub mod Probe

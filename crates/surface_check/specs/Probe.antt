@@ -1,0 +1,5 @@
+-- a stand-in
+use Rattle.std.specs.Prelude.{◌≡◌, ℕ}
+use Rattle.surface_check.specs.Steps.{steps}
+pub record Probe : Type 0 where
+  pub law : (n : ℕ) → n ≡ n
