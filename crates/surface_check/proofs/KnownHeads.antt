@@ -1,6 +1,6 @@
 -- What is read from the words of code is what is known of the program.
 use Rattle.std.specs.Prelude.{◌≡◌, refl, ℕ, ◌<◌, ◌⊎◌, List, length, map, Option, None, Result, Ok, Err}
-use Rattle.std.proofs.Common.{◌∙◌, ap, sym, subst}
+use Rattle.std.proofs.Common.{◌∙◌, ap, sym, subst, inl, inr}
 use Rattle.source.specs.Tree.{Name}
 use Rattle.source.specs.Words.{name_of}
 use Rattle.surface.specs.declared.fault.Fault.{Fault}
@@ -14,7 +14,7 @@ use Rattle.surface_check.specs.declared.heads.Head.TheVariants as open_head
 use Rattle.surface_check.specs.Heads.{Heads, no_heads, heads_read}
 use Rattle.surface_check.specs.Pins.{constant_in, array_in, signature_in}
 use Rattle.surface_check.specs.Renamed.{numbers_in, renamed}
-use Rattle.surface_check.specs.Table.{IsTable}
+use Rattle.surface_check.specs.Table.{TableView, item_in, IsTable, Knows, HeadsGive, out_of_memory}
 use Rattle.surface_check.proofs.HeadsRead.{by_bytes, ReadAs, KnowsAll, heads_are_read}
 use Rattle.surface_check.proofs.RenamedHeads.{Both, IsBoth, heads_alike}
 use Rattle.surface_check.proofs.Numbering.{named_by, within, numbers_alike, all_renamed}
@@ -64,3 +64,28 @@ heads_are_known names ws p i =
       higher = refl;
     }))
     (subst (λ (us : List (Word Name)). ReadAs (heads_read by_bytes no_heads us) (heads nothing p)) (sym e) (heads_are_read p i.fits))
+
+known_from : (names : List Name) (t : TableView) (r : Result (Heads ℕ) Fault) (q : Result Known Fault) → TableAs names r q → HeadsGive t r
+    → (known : Known) × (q ≡ Ok known) × IsTable names (item_in t.entries) t.ranks known
+known_from names t (Ok h) (Ok known) a g = (known, refl, subst (λ (rs : List ℕ). IsTable names (item_in t.entries) rs known) g.1
+    (subst (λ (item : ℕ → Option Entry). IsTable names item h.ranks known) g.0 a))
+known_from names t (Err f) q a g = absurd g
+known_from names t (Ok h) (Err f) a g = absurd a
+
+pub table_is_known : (names seen : List Name) (ws gone : List (Word ℕ)) (t : TableView) → seen ≡ names → gone ≡ ws
+    → HeadsGive t (heads_read (numbers_in seen) no_heads gone) → Knows names ws t
+table_is_known names seen ws gone t e d g = λ p i. known_from names t (heads_read (numbers_in names) no_heads ws) (heads nothing p) (heads_are_known names ws p i)
+    (subst (λ us. HeadsGive t (heads_read (numbers_in names) no_heads us)) d (subst (λ xs. HeadsGive t (heads_read (numbers_in xs) no_heads gone)) e g))
+
+same_fault : (names : List Name) (r : Result (Heads ℕ) Fault) (q : Result Known Fault) (f : Fault) → TableAs names r q → r ≡ Err f → q ≡ Err f
+same_fault names (Err e) (Err d) f a h = let k : e ≡ f = cc in ap Err (sym a ∙ k)
+same_fault names (Ok l) q f a h = absurd (cc)
+same_fault names (Err e) (Ok known) f a h = absurd a
+
+pub first_fault : (names seen : List Name) (ws gone : List (Word ℕ)) (f : Fault) → seen ≡ names → gone ≡ ws
+    → (f ≡ out_of_memory) ⊎ (heads_read (numbers_in seen) no_heads gone ≡ Err f) → (p : Program) → IsProgram names ws p
+    → (f ≡ out_of_memory) ⊎ (heads nothing p ≡ Err f)
+first_fault names seen ws gone f e d (inl h) p i = inl h
+first_fault names seen ws gone f e d (inr h) p i = inr (same_fault names (heads_read (numbers_in names) no_heads ws) (heads nothing p) f
+    (heads_are_known names ws p i) (subst (λ us. heads_read (numbers_in names) no_heads us ≡ Err f) d (subst (λ xs. heads_read (numbers_in xs) no_heads gone ≡
+    Err f) e h)))

@@ -5,3 +5,6 @@ pub mod RenamedHeads
 pub mod Numbering
 pub mod KnownHeads
 pub mod Places
+pub mod Over
+pub mod OverLists
+pub mod OverCalls

@@ -1,8 +1,12 @@
 -- Places of a table.
-use Rattle.std.specs.Prelude.{◌≡◌, refl, ℕ, ◌<◌, ◌==◌, Bool, true, false, List, length, slice_index_or, slice_set, Option, None, Some, if◌then◌else◌}
-use Rattle.std.proofs.Common.{◌∙◌}
+use Rattle.std.specs.Prelude.{◌≡◌, refl, ℕ, ◌<◌, ◌==◌, ◌↔◌, IsTrue, [], Bool, true, false, List, length, slice_index_or, slice_set, Option, None, Some, if◌then◌else◌}
+use Rattle.std.proofs.Common.{◌∙◌, sym, subst}
 use Rattle.std.proofs.lemmas.Bool.{eqb-true, eqb-false}
 use Rattle.std.proofs.lemmas.List.{get_or-set_same, get_or-set_other}
+use Rattle.semantics.specs.Graph.{same_name}
+use Rattle.semantics.proofs.Lines.{same_name_is, same_name_itself}
+use Rattle.source.specs.Tree.{Name}
+use Rattle.source.specs.Rules.{main_name}
 use Rattle.surface_check.specs.declared.entry.Entry.{Entry}
 use Rattle.surface_check.specs.Heads.{with_item}
 use Rattle.surface_check.specs.Renamed.{by_number}
@@ -16,3 +20,12 @@ set_item entries grown name e same room = λ i n. go n (n == name) refl i
     go : (n : ℕ) (b : Bool) → (n == name) ≡ b → slice_index_or (slice_set grown name (Some e)) n None ≡ (if b then Some e else slice_index_or entries n None)
     go n true d = rw (eqb-true n name d) (get_or-set_same grown name (Some e) None room)
     go n false d = get_or-set_other grown name n (Some e) None (eqb-false n name d) ∙ same n
+
+-- a test for equality is that of names
+pub is_same_name : (b : Bool) (x y : Name) → (b ≡ true) ↔ (x ≡ y) → b ≡ same_name x y
+is_same_name b x y h = go b (same_name x y) refl refl
+  where
+    go : (c d : Bool) → b ≡ c → same_name x y ≡ d → b ≡ same_name x y
+    go true d p q = p ∙ sym (subst (λ z. same_name x z ≡ true) (h.0 p) (same_name_itself x))
+    go false false p q = p ∙ sym q
+    go false true p q = h.1 (same_name_is x y q) ∙ sym q

@@ -4,4 +4,5 @@ pub mod Pins
 pub mod Steps
 pub mod Renamed
 pub mod Table
+pub mod Checks
 pub mod Probe

@@ -16,6 +16,7 @@ use Rattle.surface.specs.First.{◌>>=◌, refused, must, must_be}
 use Rattle.surface.specs.Known.{Callee, Missing, OfValues, OfArrays, IsBuiltIn, Min, Max, Abs, Len, Signature}
 use Rattle.surface.specs.Constants.{number_or_zero}
 use Rattle.surface.specs.Rules.{rank_in, same_ranks, one_if}
+use Rattle.source_check.specs.Steps.{since, back, onto}
 use Rattle.surface_check.specs.declared.entry.Entry.{Entry}
 use Rattle.surface_check.specs.declared.entry.Entry.TheVariants as entry
 use Rattle.surface_check.specs.declared.evaluation.Part.{Part}
@@ -74,19 +75,6 @@ begun = record {
 }
 
 -- STACKS
--- what is after the first n
-abbrev pub since : {N : Type 0} → ℕ → List N → List N
-since n xs = take (length xs - n) xs
-
--- the first n
-abbrev pub back : {N : Type 0} → ℕ → List N → List N
-back n xs = drop (length xs - n) xs
-
--- one after another onto a stack
-abbrev pub onto : {N : Type 0} → List N → List N → List N
-onto [] ys = ys
-onto (x ∷ xs) ys = onto xs (x ∷ ys)
-
 abbrev pub stands : {N : Type 0} → Names N → N → List N → Bool
 stands t x xs = list_any (t.same x) xs
 

@@ -1,6 +1,9 @@
 //! The heads of items, word by word.
 
-ghost use Rattle.std.specs.Prelude.{◌≡◌, ◌*◌, ◌⊎◌, ◌≤◌, Ok, Err, IfOk, IfErr, MatchResult, nat_le, [], length, pos, ℕ};
+ghost use Rattle.std.specs.Prelude.{◌≡◌, ◌*◌, ◌⊎◌, ◌≤◌, ◌↔◌, IsTrue, Ok, Err, IfOk, IfErr, MatchResult, nat_le, [], length, pos, ℕ};
+ghost use Rattle.semantics.specs.Graph.{same_name};
+ghost use Rattle.source.specs.Rules.{main_name};
+ghost use Rattle.source.specs.Words.{name_of};
 ghost use Rattle.surface.specs.First as first;
 ghost use Rattle.surface.specs.Known as known;
 ghost use Rattle.surface.specs.Rules as rules;
@@ -63,11 +66,17 @@ pub(crate) fn must_be(holds: bool, kind: CoreKind, at: usize) -> Result<(), Faul
     must(holds, FaultKind::Core { kind }, at)
 }
 
-/// The names' number is that of `main`.
-fn is_main<'a>(names: &[Name<'a>], name: usize) -> bool
-    ensures { result ≡ (numbers_in names.now).is_main name }
+fn is_main_name<'a>(name: &Name<'a>) -> bool
+    ensures { IsTrue result ↔ (name.now ≡ main_name) }
 {
-    name < names.len() && names[name].bytes == b"main".as_slice()
+    name.bytes == b"main".as_slice()
+}
+
+/// The number is that of the name `main`.
+fn is_main<'a>(names: &[Name<'a>], name: usize) -> bool
+    ensures { result ≡ same_name (name_of names.now name) main_name }
+{
+    if name < names.len() { is_main_name(&names[name]) } else { false }
 }
 
 /// So many cells are not too many.
@@ -170,7 +179,7 @@ fn product(number: u64, other: u64) -> Result<u64, Fault>
 }
 
 /// One to three lengths.
-fn measured(parts: &[Part]) -> Result<Measured, Fault>
+fn lengths_of(parts: &[Part]) -> Result<Measured, Fault>
     requires { length parts.now ≤ 3 }
     ensures { Answers result (table.measured parts.now) }
 {
@@ -340,7 +349,7 @@ impl<A: Allocator> Reader<A> {
     {
         let parts = self.evaluator.parts();
         must(parts.len() <= 3, FaultKind::BadArray, at)?;
-        let Measured { lengths, cells } = measured(parts)?;
+        let Measured { lengths, cells } = lengths_of(parts)?;
         must_be(cells <= 65536 - self.cells, CoreKind::TooMany, last_part(parts))?;
         let Some(arrays) = self.arrays.checked_add(1) else {
             return Err(OUT_OF_MEMORY);

@@ -7,5 +7,5 @@ pub mod evaluation;
 pub mod heads;
 pub mod frame;
 mod constant;
-mod table;
+pub mod table;
 mod probe;

@@ -4,6 +4,9 @@ use Rattle.surface_check.proofs.Evaluated.{parts_are}
 use Rattle.surface_check.proofs.HeadsRead.{heads_are_read}
 use Rattle.surface_check.proofs.RenamedHeads.{heads_alike}
 use Rattle.surface_check.proofs.KnownHeads.{heads_are_known}
+use Rattle.surface_check.proofs.Over.{over_infix}
+use Rattle.surface_check.proofs.OverLists.{over_store}
+use Rattle.surface_check.proofs.OverCalls.{takes_as}
 use Rattle.surface_check.proofs.probe.probe.Goals as goal
 
 pub returns : goal.returns
