@@ -8,3 +8,5 @@ pub mod Places
 pub mod Over
 pub mod OverLists
 pub mod OverCalls
+pub mod OverBodies
+pub mod OverNames

@@ -1,5 +1,5 @@
 -- Places of a table.
-use Rattle.std.specs.Prelude.{◌≡◌, refl, ℕ, ◌<◌, ◌==◌, ◌↔◌, IsTrue, [], Bool, true, false, List, length, slice_index_or, slice_set, Option, None, Some, if◌then◌else◌}
+use Rattle.std.specs.Prelude.{ℤ, pos, ◌*ℤ◌, ◌^◌, Result, ◌≡◌, refl, ℕ, ◌<◌, ◌==◌, ◌↔◌, IsTrue, [], Bool, true, false, List, length, slice_index_or, slice_set, Option, None, Some, if◌then◌else◌}
 use Rattle.std.proofs.Common.{◌∙◌, sym, subst}
 use Rattle.std.proofs.lemmas.Bool.{eqb-true, eqb-false}
 use Rattle.std.proofs.lemmas.List.{get_or-set_same, get_or-set_other}
@@ -7,6 +7,9 @@ use Rattle.semantics.specs.Graph.{same_name}
 use Rattle.semantics.proofs.Lines.{same_name_is, same_name_itself}
 use Rattle.source.specs.Tree.{Name}
 use Rattle.source.specs.Rules.{main_name}
+use Rattle.operators.specs.declared.Binary.TheVariants as binary
+use Rattle.surface.specs.declared.fault.Fault.{Fault}
+use Rattle.surface.specs.Constants.{is_shift, in_64_bits, directly}
 use Rattle.surface_check.specs.declared.entry.Entry.{Entry}
 use Rattle.surface_check.specs.Heads.{with_item}
 use Rattle.surface_check.specs.Renamed.{by_number}
@@ -29,3 +32,8 @@ is_same_name b x y h = go b (same_name x y) refl refl
     go true d p q = p ∙ sym (subst (λ z. same_name x z ≡ true) (h.0 p) (same_name_itself x))
     go false false p q = p ∙ sym q
     go false true p q = h.1 (same_name_is x y q) ∙ sym q
+
+pub shifts_by : (at : ℕ) (x y : ℤ) (n : ℕ) (r : Result ℤ Fault) → is_shift y ≡ true → y ≡ pos n → r ≡ in_64_bits at (x *ℤ pos (2 ^ n))
+    → r ≡ directly at binary.Shl x y
+shifts_by at x y n r h e f = f ∙ sym (subst (λ (z : ℤ). directly at binary.Shl x z ≡ in_64_bits at (x *ℤ pos (2 ^ n))) (sym e) (rw (subst (λ (z : ℤ). is_shift z
+    ≡ true) e h) refl))

@@ -1,6 +1,6 @@
 //! The operators on constants.
 
-ghost use Rattle.std.specs.Prelude.{◌≡◌, pos, neg_ℤ};
+ghost use Rattle.std.specs.Prelude.{◌≡◌, ◌<◌, true, false, pos, neg_ℤ, IfSome, IfNone};
 ghost use Rattle.operators.specs.declared.Binary.TheVariants as binary;
 ghost use Rattle.surface.specs.declared.fault.FaultKind.TheVariants.{BadConst};
 ghost use Rattle.surface.specs.Constants as constants;
@@ -56,14 +56,23 @@ fn quotient(at: usize, x: i64, y: i64) -> Result<i64, Fault>
     integer(at, apply2(Binary::Div, Value::Int(x), Value::Int(y)))
 }
 
+/// By how much a shift is, if it is by 0 to 63.
+fn shift_of(y: i64) -> Option<u32>
+    ensures shift { IfSome result (λ n. (constants.is_shift y ≡ true) × (y ≡ pos n)) }
+    ensures small { IfSome result (λ n. n < 64) }
+    ensures none { IfNone result (constants.is_shift y ≡ false) }
+{
+    if is_shift(y) { Some(y as u32) } else { None }
+}
+
+#[tactic(auto, using(crate::proofs::Places::shifts_by))]
 fn shifted_left(at: usize, x: i64, y: i64) -> Result<i64, Fault>
     ensures { result ≡ constants.directly at binary.Shl x y }
 {
-    if !is_shift(y) {
-        return Err(no_constant(at));
+    match shift_of(y) {
+        Some(n) => in_64_bits(at, x as i128 * 2u64.pow(n) as i128),
+        None => Err(no_constant(at)),
     }
-    let factor = 2u64.pow(y as u32);
-    in_64_bits(at, x as i128 * factor as i128)
 }
 
 fn shifted_right(at: usize, x: i64, y: i64) -> Result<i64, Fault>

@@ -7,6 +7,8 @@ use Rattle.surface_check.proofs.KnownHeads.{heads_are_known}
 use Rattle.surface_check.proofs.Over.{over_infix}
 use Rattle.surface_check.proofs.OverLists.{over_store}
 use Rattle.surface_check.proofs.OverCalls.{takes_as}
+use Rattle.surface_check.proofs.OverBodies.{over_if}
+use Rattle.surface_check.proofs.OverNames.{over_targets}
 use Rattle.surface_check.proofs.probe.probe.Goals as goal
 
 pub returns : goal.returns
