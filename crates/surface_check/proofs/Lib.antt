@@ -10,3 +10,5 @@ pub mod OverLists
 pub mod OverCalls
 pub mod OverBodies
 pub mod OverNames
+pub mod OverLets
+pub mod OverNoted

@@ -9,6 +9,8 @@ use Rattle.surface_check.proofs.OverLists.{over_store}
 use Rattle.surface_check.proofs.OverCalls.{takes_as}
 use Rattle.surface_check.proofs.OverBodies.{over_if}
 use Rattle.surface_check.proofs.OverNames.{over_targets}
+use Rattle.surface_check.proofs.OverLets.{over_let}
+use Rattle.surface_check.proofs.OverNoted.{as_listed}
 use Rattle.surface_check.proofs.probe.probe.Goals as goal
 
 pub returns : goal.returns
