@@ -389,8 +389,11 @@ array_good h known k at x es last new true e (Ok ns) f = rw (e, k.cells_are) (go
       cells = known.cells + product ns;
       open_head = open_head.Outside;
     }) >>= λ u. Ok u) (must_be c TooMany last >>= λ room. Ok (with_cells known x ns))
-    go true = (subst (λ (n : ℕ). KnowsAll (with_item same_name h.item x (entry.Array (shape ns))) h.ranks (h.arrays + 1) (n + product ns)
-        (with_cells known x ns)) k.cells_are (knows_cells h.item h.ranks h.arrays h.cells known k x ns new right), refl)
+    go true = (
+      subst (λ (n : ℕ). KnowsAll (with_item same_name h.item x (entry.Array (shape ns))) h.ranks (h.arrays + 1) (n + product ns)
+          (with_cells known x ns)) k.cells_are (knows_cells h.item h.ranks h.arrays h.cells known k x ns new right),
+      refl,
+    )
     go false = refl
 
 array_read : (h : Heads Name) (known : Known) → KnowsAll h.item h.ranks h.arrays h.cells known → (x : NameAt) (es : Exprs) → FitsAll es

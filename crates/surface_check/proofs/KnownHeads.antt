@@ -1,5 +1,5 @@
 -- What is read from the words of code is what is known of the program.
-use Rattle.std.specs.Prelude.{◌≡◌, refl, ℕ, ◌<◌, ◌⊎◌, List, length, map, Option, None, Result, Ok, Err}
+use Rattle.std.specs.Prelude.{◌≡◌, refl, ℕ, ◌<◌, ◌⊎◌, List, length, map, Option, None, Result, Ok, Err, IfOk, IfErr, MatchResult}
 use Rattle.std.proofs.Common.{◌∙◌, ap, sym, subst, inl, inr}
 use Rattle.source.specs.Tree.{Name}
 use Rattle.source.specs.Words.{name_of}
@@ -67,8 +67,12 @@ heads_are_known names ws p i =
 
 known_from : (names : List Name) (t : TableView) (r : Result (Heads ℕ) Fault) (q : Result Known Fault) → TableAs names r q → HeadsGive t r
     → (known : Known) × (q ≡ Ok known) × IsTable names (item_in t.entries) t.ranks known
-known_from names t (Ok h) (Ok known) a g = (known, refl, subst (λ (rs : List ℕ). IsTable names (item_in t.entries) rs known) g.1
-    (subst (λ (item : ℕ → Option Entry). IsTable names item h.ranks known) g.0 a))
+known_from names t (Ok h) (Ok known) a g = (
+  known,
+  refl,
+  subst (λ (rs : List ℕ). IsTable names (item_in t.entries) rs known) g.1
+      (subst (λ (item : ℕ → Option Entry). IsTable names item h.ranks known) g.0 a),
+)
 known_from names t (Err f) q a g = absurd g
 known_from names t (Ok h) (Err f) a g = absurd a
 
@@ -89,3 +93,17 @@ first_fault names seen ws gone f e d (inl h) p i = inl h
 first_fault names seen ws gone f e d (inr h) p i = inr (same_fault names (heads_read (numbers_in names) no_heads ws) (heads nothing p) f
     (heads_are_known names ws p i) (subst (λ us. heads_read (numbers_in names) no_heads us ≡ Err f) d (subst (λ xs. heads_read (numbers_in xs) no_heads gone ≡
     Err f) e h)))
+
+-- what the answers of code say
+abbrev pub Reads : List Name → List (Word ℕ) → Result TableView Fault → Type 0
+Reads names ws r = MatchResult r (λ t. HeadsGive t (heads_read (numbers_in names) no_heads ws))
+    (λ f. (f ≡ out_of_memory) ⊎ (heads_read (numbers_in names) no_heads ws ≡ Err f))
+
+pub known_when : (names : List Name) (ws : List (Word ℕ)) (r : Result TableView Fault) → Reads names ws r → IfOk r (λ t. Knows names ws t)
+known_when names ws (Ok t) h = table_is_known names names ws ws t refl refl h
+known_when names ws (Err f) h = tt
+
+pub refused_when : (names : List Name) (ws : List (Word ℕ)) (r : Result TableView Fault) → Reads names ws r → (p : Program) → IsProgram names ws p
+    → IfErr r (λ f. (f ≡ out_of_memory) ⊎ (heads nothing p ≡ Err f))
+refused_when names ws (Ok t) h p i = tt
+refused_when names ws (Err f) h p i = first_fault names names ws ws f refl refl h p i

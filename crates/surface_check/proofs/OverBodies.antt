@@ -104,8 +104,10 @@ over_when g tests b h j s rest d =
 -- ARMS. A test, and an arm after it, with what follows
 arm_as : {R : Type 0} (g : Setting) (q : Expr) (arm : Body) → Over g q → OverBody g arm → (s : Open Name) (ws : Words) → IsDeep s → (f : ℕ → Result R Fault)
     → (L : R → Result (State Name) Fault)
-    → ((n : ℕ) → runs g (record (pushed (having s (notes g s (uses q ++ body_uses arm)) n 0 kind.Other) (frame.First (length s.scope))) { scope = left_scope arm
-    s.scope }) ws ≡ (f n >>= L))
+    → ((n : ℕ) → runs g (record (pushed (having s (notes g s (uses q ++ body_uses arm)) n 0 kind.Other) (frame.First (length s.scope))) {
+      scope = left_scope arm
+          s.scope;
+    }) ws ≡ (f n >>= L))
     → runs g s (words q ++ of_core core_word.Then ∷ (body_words arm ++ ws))
     ≡ ((values (around g s) s.scope q >>= λ n. one_value q n >>= λ one. body_values (around g s) s.scope arm >>= f) >>= L)
 arm_as {R} g q arm h j s ws d f L e =

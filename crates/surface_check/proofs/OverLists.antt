@@ -113,8 +113,11 @@ cell_as : (g : Setting) (s : Open Name) (at : ℕ) (x : Name) (ws : Words) (q : 
     → runs g s (of_core (core_word.Cell at x) ∷ ws) ≡ (known_array (around g s) at x >>= q)
 cell_as g s at x ws q h = ap (λ (o : Option ℕ). cell s at o >>= λ u. steps by_bytes g.items u ws) (rank_is g s x) ∙ go (rank_of (around g s) x)
   where
-    go : (o : Option ℕ) → (cell s at o >>= λ u. steps by_bytes g.items u ws) ≡ (elim o as (λ _. Result ℕ Fault) [ Some n ↦ Ok n | None ↦ refused (Core NoSuchName)
-        at ] >>= q)
+    go : (o : Option ℕ) → (cell s at o >>= λ u. steps by_bytes g.items u ws) ≡ (elim o as (λ _. Result ℕ Fault) [
+      | Some n ↦ Ok n
+      | None ↦ refused (Core NoSuchName)
+          at
+    ] >>= q)
     go (Some n) = h n
     go None = refl
 

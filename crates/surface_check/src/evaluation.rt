@@ -66,7 +66,11 @@ fn constant_of(entry: Option<Entry>, at: usize) -> Result<i64, Fault>
 }
 
 /// The constant of a name.
-pub(crate) fn constant_named<A: Allocator>(table: &Table<A>, at: usize, name: usize) -> Result<i64, Fault>
+pub(crate) fn constant_named<A: Allocator>(
+    table: &Table<A>,
+    at: usize,
+    name: usize,
+) -> Result<i64, Fault>
     ensures { result ≡ evaluates.constants (item_in table.now.entries) at name }
 {
     constant_of(table.get(name), at)
@@ -82,7 +86,12 @@ fn written(at: usize, number: u64) -> Result<i64, Fault>
     }
 }
 
-fn prefixed_value(at: usize, op: Unary, value: Result<i64, Fault>, number: Option<u64>) -> Result<i64, Fault>
+fn prefixed_value(
+    at: usize,
+    op: Unary,
+    value: Result<i64, Fault>,
+    number: Option<u64>,
+) -> Result<i64, Fault>
     ensures { result ≡ evaluates.prefixed_value at op value number }
 {
     match (op, number) {
@@ -91,7 +100,12 @@ fn prefixed_value(at: usize, op: Unary, value: Result<i64, Fault>, number: Optio
     }
 }
 
-fn combined_value(at: usize, sign: InfixSign, left: Result<i64, Fault>, right: Result<i64, Fault>) -> Result<i64, Fault>
+fn combined_value(
+    at: usize,
+    sign: InfixSign,
+    left: Result<i64, Fault>,
+    right: Result<i64, Fault>,
+) -> Result<i64, Fault>
     ensures { result ≡ evaluates.combined_value at sign left right }
 {
     combined(at, sign, left?, right?)
@@ -223,7 +237,10 @@ impl<A: Allocator> Evaluator<A> {
             CoreWord::Prefix { at, op } => self.prefixed(at, op),
             CoreWord::Left => return self.left_ends(),
             CoreWord::Infix { at, sign } => self.infixed(at, sign),
-            CoreWord::Fetch { at, .. } | CoreWord::Store { at, .. } | CoreWord::EndIf { at } | CoreWord::EndLoop { at, .. } => self.refused(at),
+            CoreWord::Fetch { at, .. }
+            | CoreWord::Store { at, .. }
+            | CoreWord::EndIf { at }
+            | CoreWord::EndLoop { at, .. } => self.refused(at),
             CoreWord::Call { at, .. } => {
                 self.list_ends();
                 self.refused(at);
@@ -242,7 +259,11 @@ impl<A: Allocator> Evaluator<A> {
     {
         match word {
             Word::Core { word } => return self.core_step(table, word),
-            Word::EndAnd { at } | Word::EndOr { at } | Word::Not { at } | Word::EndConstantLoop { at, .. } | Word::EndFor { at } => self.refused(at),
+            Word::EndAnd { at }
+            | Word::EndOr { at }
+            | Word::Not { at }
+            | Word::EndConstantLoop { at, .. }
+            | Word::EndFor { at } => self.refused(at),
             Word::When => self.list_ends(),
             _ => (),
         }

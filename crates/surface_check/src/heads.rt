@@ -24,7 +24,6 @@ use source::word::Word as CoreWord;
 use std::alloc::{AllocError, Allocator};
 use std::marker::Model;
 use surface::fault::{Fault, FaultKind};
-use surface::program::Program;
 use surface::word::Word;
 
 /// The function whose head is read: its name, where its ranks begin in the table, its first parameter that is refused, and
@@ -76,7 +75,11 @@ fn is_main_name<'a>(name: &Name<'a>) -> bool
 fn is_main<'a>(names: &[Name<'a>], name: usize) -> bool
     ensures { result ≡ same_name (name_of names.now name) main_name }
 {
-    if name < names.len() { is_main_name(&names[name]) } else { false }
+    if name < names.len() {
+        is_main_name(&names[name])
+    } else {
+        false
+    }
 }
 
 /// So many cells are not too many.
@@ -323,8 +326,12 @@ impl<A: Allocator> Reader<A> {
         ensures { DoesAs result (heads_in self.new) (heads.begins (heads_in self.old) word) }
     {
         match word {
-            Word::Core { word: CoreWord::Array { at, name } } => self.array_begins(at, name),
-            Word::Core { word: CoreWord::Function { at, name } } => self.function_begins(at, name),
+            Word::Core {
+                word: CoreWord::Array { at, name },
+            } => self.array_begins(at, name),
+            Word::Core {
+                word: CoreWord::Function { at, name },
+            } => self.function_begins(at, name),
             Word::Constant { at, name } => self.constant_begins(at, name),
             _ => Ok(()),
         }
@@ -333,8 +340,8 @@ impl<A: Allocator> Reader<A> {
     /// The item of a name is known.
     fn set(&mut self, name: usize, entry: Entry, head: Head<usize>) -> Result<(), Fault>
         ensures { DoesAs result (heads_in self.new) (Ok (record (heads_in self.old) {
-            item = heads.with_item by_number (heads_in self.old).item name entry;
-            open_head = head;
+          item = heads.with_item by_number (heads_in self.old).item name entry;
+          open_head = head;
         })) }
     {
         let Ok(()) = self.table.set(name, entry) else {
@@ -350,7 +357,11 @@ impl<A: Allocator> Reader<A> {
         let parts = self.evaluator.parts();
         must(parts.len() <= 3, FaultKind::BadArray, at)?;
         let Measured { lengths, cells } = lengths_of(parts)?;
-        must_be(cells <= 65536 - self.cells, CoreKind::TooMany, last_part(parts))?;
+        must_be(
+            cells <= 65536 - self.cells,
+            CoreKind::TooMany,
+            last_part(parts),
+        )?;
         let Some(arrays) = self.arrays.checked_add(1) else {
             return Err(OUT_OF_MEMORY);
         };
@@ -373,7 +384,13 @@ impl<A: Allocator> Reader<A> {
         self.evaluator.step(&self.table, word)
     }
 
-    fn parameter<'a>(&mut self, names: &[Name<'a>], head: FunctionHead<usize>, at: usize, rank: u64) -> Result<(), Fault>
+    fn parameter<'a>(
+        &mut self,
+        names: &[Name<'a>],
+        head: FunctionHead<usize>,
+        at: usize,
+        rank: u64,
+    ) -> Result<(), Fault>
         ensures { DoesAs result (heads_in self.new) (heads.parameter (numbers_in names.now) (heads_in self.old) head at rank) }
     {
         let count = self.table.ranks().len().saturating_sub(head.first);
@@ -413,16 +430,27 @@ impl<A: Allocator> Reader<A> {
         self.set(head.name, entry, Head::Body)
     }
 
-    fn in_function<'a>(&mut self, names: &[Name<'a>], head: FunctionHead<usize>, word: Word<usize>) -> Result<(), Fault>
+    fn in_function<'a>(
+        &mut self,
+        names: &[Name<'a>],
+        head: FunctionHead<usize>,
+        word: Word<usize>,
+    ) -> Result<(), Fault>
         ensures { DoesAs result (heads_in self.new) (heads.in_function (numbers_in names.now) (heads_in self.old) head word) }
     {
         match word {
-            Word::Core { word: CoreWord::Parameter { at, .. } } => self.parameter(names, head, at, 0),
-            Word::Core { word: CoreWord::Results { at, number } } => {
+            Word::Core {
+                word: CoreWord::Parameter { at, .. },
+            } => self.parameter(names, head, at, 0),
+            Word::Core {
+                word: CoreWord::Results { at, number },
+            } => {
                 self.results_read(head, written_results(at, number));
                 Ok(())
             }
-            Word::Core { word: CoreWord::Body { .. } } => self.head_ends(head),
+            Word::Core {
+                word: CoreWord::Body { .. },
+            } => self.head_ends(head),
             Word::ArrayParameter { at, rank, .. } => self.parameter(names, head, at, rank as u64),
             Word::ConstantResults { at, name } => {
                 let number = constant_named(&self.table, at, name);
@@ -455,7 +483,11 @@ impl<A: Allocator> Reader<A> {
 }
 
 /// Reads the heads of all items.
-fn read<'a, A: Allocator + Clone>(alloc: &A, names: &[Name<'a>], words: &[Word<usize>]) -> Result<Table<A>, Fault>
+fn read<'a, A: Allocator + Clone>(
+    alloc: &A,
+    names: &[Name<'a>],
+    words: &[Word<usize>],
+) -> Result<Table<A>, Fault>
     ensures { MatchResult result (λ t. HeadsGive t (heads.heads_read (numbers_in names.now) heads.no_heads words.now))
         (λ f. (f ≡ out_of_memory) ⊎ (heads.heads_read (numbers_in names.now) heads.no_heads words.now ≡ Err f)) }
 {
@@ -468,12 +500,16 @@ fn read<'a, A: Allocator + Clone>(alloc: &A, names: &[Name<'a>], words: &[Word<u
     Ok(reader.table)
 }
 
-/// What is known of the items of a program, if their heads break no rule; else the first fault among them. `Memory` is
-/// returned where a growth was refused.
-pub fn read_heads<'a, A: Allocator + Clone>(alloc: &A, program: &Program<'a, A>) -> Result<Table<A>, Fault>
-    ensures known { IfOk result (λ t. Knows program.now.names program.now.words t) }
-    ensures refused { (p : tree.Program) → IsProgram program.now.names program.now.words p
+/// What is known of the items of a program with these names and words, if their heads break no rule; else the first fault
+/// among them. `Memory` is returned where a growth was refused.
+pub fn read_heads<'a, A: Allocator + Clone>(
+    alloc: &A,
+    names: &[Name<'a>],
+    words: &[Word<usize>],
+) -> Result<Table<A>, Fault>
+    ensures known { IfOk result (λ t. Knows names.now words.now t) }
+    ensures refused { (p : tree.Program) → IsProgram names.now words.now p
         → IfErr result (λ f. (f ≡ out_of_memory) ⊎ (rules.heads known.nothing p ≡ Err f)) }
 {
-    read(alloc, &program.names, &program.words)
+    read(alloc, names, words)
 }

@@ -2,10 +2,10 @@
 //! returned.
 #![tactic(auto)]
 
+mod constant;
 pub mod entry;
 pub mod evaluation;
-pub mod heads;
 pub mod frame;
-mod constant;
-pub mod table;
+pub mod heads;
 mod probe;
+pub mod table;
