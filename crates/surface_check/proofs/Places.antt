@@ -37,3 +37,6 @@ pub shifts_by : (at : ℕ) (x y : ℤ) (n : ℕ) (r : Result ℤ Fault) → is_s
     → r ≡ directly at binary.Shl x y
 shifts_by at x y n r h e f = f ∙ sym (subst (λ (z : ℤ). directly at binary.Shl x z ≡ in_64_bits at (x *ℤ pos (2 ^ n))) (sym e) (rw (subst (λ (z : ℤ). is_shift z
     ≡ true) e h) refl))
+
+pub multiplies : (at : ℕ) (x y : ℤ) (r : Result ℤ Fault) → r ≡ in_64_bits at (x *ℤ y) → r ≡ directly at binary.Mul x y
+multiplies at x y r f = f

@@ -56,6 +56,13 @@ fn quotient(at: usize, x: i64, y: i64) -> Result<i64, Fault>
     integer(at, apply2(Binary::Div, Value::Int(x), Value::Int(y)))
 }
 
+#[tactic(auto, using(crate::proofs::Places::multiplies))]
+fn multiplied(at: usize, x: i64, y: i64) -> Result<i64, Fault>
+    ensures { result ≡ constants.directly at binary.Mul x y }
+{
+    in_64_bits(at, x as i128 * y as i128)
+}
+
 /// By how much a shift is, if it is by 0 to 63.
 fn shift_of(y: i64) -> Option<u32>
     ensures shift { IfSome result (λ n. (constants.is_shift y ≡ true) × (y ≡ pos n)) }
@@ -90,7 +97,7 @@ fn directly(at: usize, op: Binary, x: i64, y: i64) -> Result<i64, Fault>
     match op {
         Binary::Add => in_64_bits(at, x as i128 + y as i128),
         Binary::Sub => in_64_bits(at, x as i128 - y as i128),
-        Binary::Mul => in_64_bits(at, x as i128 * y as i128),
+        Binary::Mul => multiplied(at, x, y),
         Binary::Div => quotient(at, x, y),
         Binary::Shl => shifted_left(at, x, y),
         Binary::Shr => shifted_right(at, x, y),
