@@ -1,6 +1,6 @@
 -- Places of a table.
-use Rattle.std.specs.Prelude.{ℤ, pos, ◌*ℤ◌, ◌^◌, Result, ◌≡◌, refl, ℕ, ◌<◌, ◌==◌, ◌↔◌, IsTrue, [], Bool, true, false, List, length, slice_index_or, slice_set, Option, None, Some, if◌then◌else◌}
-use Rattle.std.proofs.Common.{◌∙◌, sym, subst}
+use Rattle.std.specs.Prelude.{suc, ◌-◌, ◌∷◌, ℤ, pos, ◌*ℤ◌, ◌^◌, Result, ◌≡◌, refl, ℕ, ◌<◌, ◌==◌, ◌↔◌, IsTrue, [], Bool, true, false, List, length, slice_index_or, slice_set, Option, None, Some, if◌then◌else◌}
+use Rattle.std.proofs.Common.{◌∙◌, ap, arith, sym, subst}
 use Rattle.std.proofs.lemmas.Bool.{eqb-true, eqb-false}
 use Rattle.std.proofs.lemmas.List.{get_or-set_same, get_or-set_other}
 use Rattle.semantics.specs.Graph.{same_name}
@@ -11,7 +11,8 @@ use Rattle.operators.specs.declared.Binary.TheVariants as binary
 use Rattle.surface.specs.declared.fault.Fault.{Fault}
 use Rattle.surface.specs.Constants.{is_shift, in_64_bits, directly}
 use Rattle.surface_check.specs.declared.entry.Entry.{Entry}
-use Rattle.surface_check.specs.Heads.{with_item}
+use Rattle.surface_check.specs.declared.evaluation.Part.{Part}
+use Rattle.surface_check.specs.Heads.{with_item, last_part}
 use Rattle.surface_check.specs.Renamed.{by_number}
 use Rattle.surface_check.specs.Table.{item_in}
 
@@ -40,3 +41,15 @@ shifts_by at x y n r h e f = f ∙ sym (subst (λ (z : ℤ). directly at binary.
 
 pub multiplies : (at : ℕ) (x y : ℤ) (r : Result ℤ Fault) → r ≡ in_64_bits at (x *ℤ y) → r ≡ directly at binary.Mul x y
 multiplies at x y r f = f
+
+one_less : (n : ℕ) → suc (suc n) - 1 ≡ suc n
+one_less n = omega arith
+
+pub last_place_is : (parts : List Part) (d : Part) → 0 < length parts → (slice_index_or parts (length parts - 1) d).at ≡ last_part parts
+last_place_is [] d h = absurd (omega (arith, h))
+last_place_is (p ∷ []) d h = refl
+last_place_is (p ∷ q ∷ ps) d h = ap (λ (n : ℕ). (slice_index_or (p ∷ q ∷ ps) n d).at) (one_less (length ps))
+    ∙ ap (λ (n : ℕ). (slice_index_or (q ∷ ps) n d).at) (sym (less_one (length ps))) ∙ last_place_is (q ∷ ps) d (omega arith)
+  where
+    less_one : (n : ℕ) → suc n - 1 ≡ n
+    less_one n = omega arith

@@ -72,6 +72,7 @@ fn is_main_name<'a>(name: &Name<'a>) -> bool
 }
 
 /// The number is that of the name `main`.
+#[tactic(auto, using(crate::proofs::Places::is_same_name))]
 fn is_main<'a>(names: &[Name<'a>], name: usize) -> bool
     ensures { result ≡ same_name (name_of names.now name) main_name }
 {
@@ -224,13 +225,14 @@ fn lengths_of(parts: &[Part]) -> Result<Measured, Fault>
 }
 
 /// The place of the last part.
+#[tactic(auto, using(crate::proofs::Places::last_place_is))]
 fn last_part(parts: &[Part]) -> usize
     ensures { result ≡ heads.last_part parts.now }
 {
-    match parts.last() {
-        Some(part) => part.at,
-        None => 0,
+    if parts.is_empty() {
+        return 0;
     }
+    parts[parts.len() - 1].at
 }
 
 fn some_value(ranks: &[u64]) -> bool
