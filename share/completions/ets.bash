@@ -3,14 +3,16 @@
 # The options of a command that take a value, and then those that take none.
 _ets_options() {
     case $1 in
-        run | exec) echo --elements --frames --steps --mode --turn --take ;;
-        trace) echo --elements --frames --steps --mode --turn --take --last --format ;;
-        profile) echo --elements --frames --steps --take --svg ;;
-        orders) echo --elements --frames --steps --take --count --seed ;;
-        mean) echo --steps ;;
+        run) echo --elements --frames --steps --mode --turn --take --cells --grid --quiet ;;
+        exec) echo --elements --frames --steps --mode --turn --take ;;
+        trace) echo --elements --frames --steps --mode --turn --take --last --format --quiet ;;
+        profile) echo --elements --frames --steps --take --svg --quiet ;;
+        orders) echo --elements --frames --steps --take --count --seed --cells --grid --quiet ;;
+        mean) echo --steps --cells --grid --quiet ;;
         dis) echo --literals ;;
-        dot) echo --code ;;
-        lower) echo --map ;;
+        dot) echo --code --quiet ;;
+        lower) echo --map --quiet ;;
+        check | compile) echo --quiet ;;
     esac
 }
 
@@ -19,7 +21,9 @@ _ets_values() {
     case "$1 $2" in
         "run --frames") echo enough ;;
         *" --mode") echo one rounds free ;;
+        "orders --take") echo oldest ;;
         *" --take") echo oldest depth ;;
+        *" --cells") echo none ;;
         *" --format") echo text chrome html ;;
     esac
 }
@@ -27,7 +31,7 @@ _ets_values() {
 # Whether the option takes a value.
 _ets_wants_value() {
     case $1 in
-        --elements | --frames | --steps | --mode | --turn | --take | --last | --format | --count | --seed) return 0 ;;
+        --elements | --frames | --steps | --mode | --turn | --take | --last | --format | --count | --seed | --cells | --grid) return 0 ;;
     esac
     return 1
 }

@@ -13,7 +13,7 @@ function __ets_takes
     for i in (seq 3 (count $words))
         string match -q -- "--$argv[1]=*" $words[$i]; and return 1
         # The last word may be an option that waits for its value.
-        test $words[$i] = --$argv[1]; and contains -- $argv[1] literals code svg map; and return 1
+        test $words[$i] = --$argv[1]; and contains -- $argv[1] literals code svg map quiet; and return 1
         test $words[$i] = --$argv[1] -a $i -lt (count $words); and return 1
     end
     return 0
@@ -60,7 +60,11 @@ complete -c ets -n '__ets_takes steps run exec trace profile orders' -l steps -x
 complete -c ets -n '__ets_takes steps mean' -l steps -x -d 'activities at most'
 complete -c ets -n '__ets_takes mode run exec trace' -l mode -x -d 'how the elements take turns' -a 'one\t"in turn, in one thread" rounds\t"in rounds, a thread each" free\t"free, a thread each"'
 complete -c ets -n '__ets_takes turn run exec trace' -l turn -x -d 'tokens that an element takes at once, 1 to 65536'
-complete -c ets -n '__ets_takes take run exec trace profile orders' -l take -x -d 'which of its tokens an element takes' -a 'oldest\t"its oldest one" depth\t"requests for frames wait"'
+complete -c ets -n '__ets_takes take run exec trace profile' -l take -x -d 'which of its tokens an element takes' -a 'oldest\t"its oldest one" depth\t"requests for frames wait"'
+complete -c ets -n '__ets_takes take orders' -l take -x -d 'which of its tokens an element takes' -a 'oldest\t"any one"'
+complete -c ets -n '__ets_takes cells run mean orders' -l cells -x -d 'print the full cells of these arrays of a file alone' -a 'none\t"no cells"'
+complete -c ets -n '__ets_takes grid run mean orders' -l grid -x -d 'print the full cells of these arrays of a file in rows'
+complete -c ets -n '__ets_takes quiet run mean check compile dot trace profile orders lower' -l quiet -d 'no warnings of the program of a file'
 complete -c ets -n '__ets_takes last trace' -l last -x -d 'only the last events'
 complete -c ets -n '__ets_takes format trace' -l format -x -d 'how the trace is written' -a 'text\t"a line for each event" chrome\t"Trace Event JSON" html\t"a page that shows the run"'
 complete -c ets -n '__ets_takes svg profile' -l svg -d 'a picture in place of lines'

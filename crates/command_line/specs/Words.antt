@@ -13,7 +13,7 @@ use Rattle.command_line.specs.declared.Format.{Format}
 use Rattle.command_line.specs.declared.EventFormat.{EventFormat}
 use Rattle.command_line.specs.declared.Literals.{Literals}
 use Rattle.command_line.specs.declared.Lowering.{Lowering}
-use Rattle.command_line.specs.declared.Mode.{Mode}
+use Rattle.mode.specs.declared.Mode.{Mode}
 use Rattle.command_line.specs.declared.Request.{Request}
 use Rattle.command_line.specs.declared.RunOptions.{RunOptions}
 use Rattle.command_line.specs.declared.Take.{Take}
@@ -410,4 +410,4 @@ asked (word ∷ rest) =
 
 -- what `--version` prints: the version, and the kit that the program is made with
 abbrev pub version_line : Text
-version_line = codes "ets 0.3.4 (rattle-kit-13f)" ++ 10 ∷ []
+version_line = codes "ets 0.3.5 (rattle-kit-13f)" ++ 10 ∷ []

@@ -1,15 +1,18 @@
 //! The file that the words of a command name.
 
-ghost use Rattle.std.specs.Prelude.{◌≡◌, map, None};
-ghost use Rattle.command_line.specs.Words.{no_inputs, nothing};
-ghost use Rattle.command_line.specs.Files.{all_given, end_given, file_request, file_take, first_given, given, given_of, help_given, inputs_given, is_file};
-ghost use Rattle.command_line.specs.Files.{is_plain, no_words, plain_given, step_given, takes_inputs_after, with_file_defaults, word_given};
+ghost use Rattle.std.specs.Prelude.{◌≡◌, ◌<◌, IfSome, map, None, option_map, slice_get};
+ghost use Rattle.command_line.specs.Words.{long_of, no_inputs, nothing};
+ghost use Rattle.command_line.specs.Files.{all_given, are_rows, are_some, end_given, file_option_at, file_option_given, file_option_named, file_request, file_take};
+ghost use Rattle.command_line.specs.Files.{first_given, given, given_of, help_given, inputs_given, is_file, is_grid, is_plain, is_row, is_value, no_options};
+ghost use Rattle.command_line.specs.Files.{no_words, option_given, option_value, plain_given, prints_report, reads_program, row_length, step_given, takes_file_option};
+ghost use Rattle.command_line.specs.Files.{takes_inputs_after, unwanted_given, value_found, value_given, value_of, with_file_defaults, with_file_option, word_given};
 
 use crate::inputs::Inputs;
 use crate::options::{
-    Collected, Frames, OptionName, Step, is_flag, request_of, takes_inputs, word_met,
+    Collected, Frames, OptionName, Step, is_flag, long_of, number_of, parts_at, request_of,
+    takes_inputs, word_met,
 };
-use crate::{Command, Mode, Request, Take, command_named, with_inputs};
+use crate::{Command, Request, Take, command_named, with_inputs};
 use graph_file::literal;
 use std::convert::AsStr;
 use std::marker::Model;
@@ -36,6 +39,29 @@ pub struct FileRequest<'a> {
     pub request: Request,
     /// The inputs of the graph's run, after the file's name. Those of an object's run are in the request.
     pub inputs: Inputs,
+    pub options: FileOptions,
+}
+
+/// The options that a command has with a file alone.
+#[derive(Clone, Copy, Debug, PartialEq, Eq)]
+enum FileOption {
+    /// The arrays whose cells a report prints.
+    Cells,
+    /// The arrays whose cells it prints in rows.
+    Grid,
+    /// It has no value.
+    Quiet,
+}
+
+/// Which of them were given. Their values are among the words (`option_value`).
+#[derive(Clone, Copy, Debug, PartialEq, Eq)]
+pub struct FileOptions {
+    /// Only the cells of some arrays are printed.
+    pub cells: bool,
+    /// The cells of some arrays are printed in rows.
+    pub grid: bool,
+    /// Warnings are left out.
+    pub quiet: bool,
 }
 
 /// What is given with the words of a command line.
@@ -52,11 +78,14 @@ pub enum Given<'a> {
 #[derive(Drop)]
 struct Walk<'a> {
     collected: Collected,
+    options: FileOptions,
     file: Option<FileName<'a>>,
     /// The inputs after the file's name.
     inputs: Inputs,
     /// The option that waits for its value.
     waiting: Option<OptionName>,
+    /// The option of a file that does.
+    wanted: Option<FileOption>,
 }
 
 /// What is known after a word.
@@ -98,12 +127,12 @@ fn takes_inputs_after(command: Command) -> bool
     )
 }
 
-/// The order in which the tokens of a file's graph are taken, where nothing is said: by depth, where there are such runs.
-fn file_take(command: Command, mode: Option<Mode>) -> Take
-    ensures { result ≡ file_take command mode }
+/// The order in which the tokens of a file's graph are taken, where nothing is said: by depth, but for runs in random orders.
+fn file_take(command: Command) -> Take
+    ensures { result ≡ file_take command }
 {
-    match (command, mode) {
-        (Command::Orders, _) | (_, Some(Mode::Free)) => Take::Oldest,
+    match command {
+        Command::Orders => Take::Oldest,
         _ => Take::Depth,
     }
 }
@@ -112,8 +141,7 @@ fn file_take(command: Command, mode: Option<Mode>) -> Take
 fn with_file_defaults(command: Command, collected: Collected) -> Collected
     ensures { result ≡ with_file_defaults command collected }
 {
-    let mode = collected.mode.unwrap_or(Some(Mode::One));
-    let take = collected.take.unwrap_or(Some(file_take(command, mode)));
+    let take = collected.take.unwrap_or(Some(file_take(command)));
     Collected {
         frames: Some(collected.frames.unwrap_or(Frames::Number(1_024))),
         steps: Some(collected.steps.unwrap_or(4_294_967_296)),
@@ -122,14 +150,165 @@ fn with_file_defaults(command: Command, collected: Collected) -> Collected
     }
 }
 
+fn file_option_named(name: &str) -> Option<FileOption>
+    ensures { result ≡ file_option_named name.now }
+{
+    if name == "cells" {
+        Some(FileOption::Cells)
+    } else if name == "grid" {
+        Some(FileOption::Grid)
+    } else if name == "quiet" {
+        Some(FileOption::Quiet)
+    } else {
+        None
+    }
+}
+
+/// Whether the command prints a report and no more.
+fn prints_report(command: Command) -> bool
+    ensures { result ≡ prints_report command }
+{
+    matches!(command, Command::Run | Command::Mean | Command::Orders)
+}
+
+/// Whether the command works on a program.
+fn reads_program(command: Command) -> bool
+    ensures { result ≡ reads_program command }
+{
+    !matches!(
+        command,
+        Command::Exec | Command::Dis | Command::Upgrade | Command::Asm
+    )
+}
+
+fn takes_file_option(command: Command, option: FileOption) -> bool
+    ensures { result ≡ takes_file_option command option }
+{
+    match option {
+        FileOption::Quiet => reads_program(command),
+        FileOption::Cells | FileOption::Grid => prints_report(command),
+    }
+}
+
+/// The option of a file that the word names, with its value, if `=` follows the name; none where an option waits for the word as its value.
+fn file_option_at(
+    command: Command,
+    waiting: Option<OptionName>,
+    word: &str,
+) -> Option<(FileOption, Option<&str>)>
+    ensures { option_map (λ p. (p.0, option_map (λ s. s.now) p.1)) result ≡ file_option_at command waiting word.now }
+{
+    if waiting.is_some() {
+        return None;
+    }
+    let (name, value) = long_of(word)?;
+    let option = file_option_named(name)?;
+    if takes_file_option(command, option) {
+        Some((option, value))
+    } else {
+        None
+    }
+}
+
+/// How many cells a row has, by the text after the array's name: a number other than 0.
+pub fn row_length(digits: Option<&str>) -> Option<u64>
+    ensures same { result ≡ row_length (option_map (λ s. s.now) digits.entry) }
+    ensures positive { IfSome result (λ n. 0 < n) }
+{
+    match number_of(digits?) {
+        Some(number) if number != 0 => Some(number),
+        _ => None,
+    }
+}
+
+/// Whether the text names an array and says how many cells a row has.
+fn is_row(part: &str) -> bool
+    ensures { result ≡ is_row part.now }
+{
+    let (_name, digits) = parts_at('=', part);
+    row_length(digits).is_some()
+}
+
+/// Whether each part of the text does; it has at most `room` of them.
+#[tactic(auto, unfolding(crate::specs::Files::are_rows))]
+fn are_rows(room: u8, text: &str) -> bool
+    ensures { result ≡ are_rows room text.now }
+{
+    if room == 0 {
+        return false;
+    }
+    let (first, more) = parts_at(',', text);
+    is_row(first)
+        && match more {
+            Some(more) => are_rows(room - 1, more),
+            None => true,
+        }
+}
+
+/// Whether the text is a value of `--grid`: arrays with how many cells a row has, as `A=8` or `A=8,B=4`, at most 64 of them.
+pub fn is_grid(text: &str) -> bool
+    ensures { result ≡ is_grid text.now }
+{
+    are_rows(64, text)
+}
+
+/// Whether the text is a value of the option.
+fn is_value(option: FileOption, text: &str) -> bool
+    ensures { result ≡ is_value option text.now }
+{
+    match option {
+        FileOption::Cells => true,
+        FileOption::Grid => is_grid(text),
+        FileOption::Quiet => false,
+    }
+}
+
+impl FileOptions {
+    const fn none() -> FileOptions
+        ensures { result ≡ no_options }
+    {
+        FileOptions {
+            cells: false,
+            grid: false,
+            quiet: false,
+        }
+    }
+
+    /// Whether one of them was given.
+    fn are_some(self) -> bool
+        ensures { result ≡ are_some self }
+    {
+        self.cells || self.grid || self.quiet
+    }
+
+    /// With the option too, unless it was given before.
+    fn with(self, option: FileOption) -> Option<FileOptions>
+        ensures { result ≡ with_file_option self option }
+    {
+        match option {
+            FileOption::Cells if !self.cells => Some(FileOptions {
+                cells: true,
+                ..self
+            }),
+            FileOption::Grid if !self.grid => Some(FileOptions { grid: true, ..self }),
+            FileOption::Quiet if !self.quiet => Some(FileOptions {
+                quiet: true,
+                ..self
+            }),
+            _ => None,
+        }
+    }
+}
+
 /// What is to be done with the file.
 fn file_request<'a>(
     command: Command,
     collected: Collected,
+    options: FileOptions,
     name: FileName<'a>,
     inputs: Inputs,
 ) -> Given<'a>
-    ensures { result ≡ file_request command collected name.entry inputs }
+    ensures { result ≡ file_request command collected options name.entry inputs }
 {
     let collected = with_file_defaults(command, collected);
     if takes_inputs(command) {
@@ -137,12 +316,14 @@ fn file_request<'a>(
             name,
             request: request_of(command, collected, inputs),
             inputs: Inputs::none(),
+            options,
         })
     } else {
         Given::File(FileRequest {
             name,
             request: request_of(command, collected, Inputs::none()),
             inputs,
+            options,
         })
     }
 }
@@ -165,12 +346,12 @@ fn plain_given<'a>(command: Command, walk: Walk<'a>, word: &'a str) -> Walked<'a
 }
 
 /// Help is asked for.
-fn help_given<'a>(command: Command, file: &Option<FileName<'a>>) -> Given<'a>
-    ensures { result ≡ help_given command file.now }
+fn help_given<'a>(command: Command, options: FileOptions, file: &Option<FileName<'a>>) -> Given<'a>
+    ensures { result ≡ help_given command options file.now }
 {
     match file {
-        None => Given::Words,
-        Some(_name) => Given::Help(command),
+        None if !options.are_some() => Given::Words,
+        _ => Given::Help(command),
     }
 }
 
@@ -178,16 +359,23 @@ fn help_given<'a>(command: Command, file: &Option<FileName<'a>>) -> Given<'a>
 fn inputs_given<'a, S: AsStr>(
     command: Command,
     collected: Collected,
+    options: FileOptions,
     name: FileName<'a>,
     inputs: Inputs,
     words: &[S],
 ) -> Given<'a>
-    ensures { result ≡ inputs_given command collected name.entry inputs (map S.text words.now) }
+    ensures { result ≡ inputs_given command collected options name.entry inputs (map S.text words.now) }
 {
     if takes_inputs_after(command) {
-        file_request(command, collected, name, with_inputs(inputs, words))
+        file_request(
+            command,
+            collected,
+            options,
+            name,
+            with_inputs(inputs, words),
+        )
     } else if words.is_empty() {
-        file_request(command, collected, name, inputs)
+        file_request(command, collected, options, name, inputs)
     } else {
         Given::Words
     }
@@ -197,17 +385,18 @@ fn inputs_given<'a, S: AsStr>(
 fn first_given<'a, S: AsStr>(
     command: Command,
     collected: Collected,
+    options: FileOptions,
     inputs: Inputs,
     words: &'a [S],
 ) -> Given<'a>
-    ensures { result ≡ first_given command collected inputs (map S.text words.now) }
+    ensures { result ≡ first_given command collected options inputs (map S.text words.now) }
 {
     match words.split_first() {
         Some((word, rest)) if is_file(command, word.as_str()) => {
             let name = FileName {
                 text: word.as_str(),
             };
-            inputs_given(command, collected, name, inputs, rest)
+            inputs_given(command, collected, options, name, inputs, rest)
         }
         _ => Given::Words,
     }
@@ -219,13 +408,14 @@ fn end_given<'a, S: AsStr>(command: Command, walk: Walk<'a>, words: &'a [S]) -> 
 {
     let Walk {
         collected,
+        options,
         file,
         inputs,
         ..
     } = walk;
     match file {
-        None => first_given(command, collected, inputs, words),
-        Some(name) => inputs_given(command, collected, name, inputs, words),
+        None => first_given(command, collected, options, inputs, words),
+        Some(name) => inputs_given(command, collected, options, name, inputs, words),
     }
 }
 
@@ -244,13 +434,77 @@ fn step_given<'a, S: AsStr>(
             waiting,
             ..walk
         }),
-        Step::Help => Walked::Done(help_given(command, &walk.file)),
+        Step::Help => Walked::Done(help_given(command, walk.options, &walk.file)),
         Step::End => Walked::Done(end_given(command, walk, words)),
         Step::Input | Step::Mistake => Walked::Done(Given::Words),
     }
 }
 
-/// What the next word says. These words are after it.
+/// With these options of a file, if there are some.
+fn option_given<'a>(walk: Walk<'a>, options: Option<FileOptions>) -> Walked<'a>
+    ensures { result ≡ option_given walk.entry options }
+{
+    match options {
+        Some(options) => Walked::On(Walk {
+            options,
+            wanted: None,
+            ..walk
+        }),
+        None => Walked::Done(Given::Words),
+    }
+}
+
+/// The option of a file has this value.
+fn value_given<'a>(walk: Walk<'a>, option: FileOption, value: &str) -> Walked<'a>
+    ensures { result ≡ value_given walk.entry option value.now }
+{
+    if is_value(option, value) {
+        let options = walk.options.with(option);
+        option_given(walk, options)
+    } else {
+        Walked::Done(Given::Words)
+    }
+}
+
+/// The option of a file, and its value where `=` follows its name.
+fn file_option_given<'a>(walk: Walk<'a>, option: FileOption, value: Option<&str>) -> Walked<'a>
+    ensures { result ≡ file_option_given walk.entry option (option_map (λ s. s.now) value.entry) }
+{
+    match (option, value) {
+        (option, Some(value)) => value_given(walk, option, value),
+        (FileOption::Quiet, None) => {
+            let options = walk.options.with(FileOption::Quiet);
+            option_given(walk, options)
+        }
+        (option, None) => Walked::On(Walk {
+            wanted: Some(option),
+            ..walk
+        }),
+    }
+}
+
+/// What the next word says, where no option of a file waits for its value. These words are after it.
+fn unwanted_given<'a, S: AsStr>(
+    command: Command,
+    walk: Walk<'a>,
+    word: &'a str,
+    words: &'a [S],
+) -> Walked<'a>
+    ensures { result ≡ unwanted_given command walk.entry word.now (map S.text words.now) }
+{
+    if is_plain(walk.waiting, word) {
+        return plain_given(command, walk, word);
+    }
+    match file_option_at(command, walk.waiting, word) {
+        Some((option, value)) => file_option_given(walk, option, value),
+        None => {
+            let step = word_met(command, walk.collected, walk.waiting, word);
+            step_given(command, walk, step, words)
+        }
+    }
+}
+
+/// What the next word says. These words are after it. The value of an option that waits is no flag.
 fn word_given<'a, S: AsStr>(
     command: Command,
     walk: Walk<'a>,
@@ -259,11 +513,10 @@ fn word_given<'a, S: AsStr>(
 ) -> Walked<'a>
     ensures { result ≡ word_given command walk.entry word.now (map S.text words.now) }
 {
-    if is_plain(walk.waiting, word) {
-        plain_given(command, walk, word)
-    } else {
-        let step = word_met(command, walk.collected, walk.waiting, word);
-        step_given(command, walk, step, words)
+    match walk.wanted {
+        None => unwanted_given(command, walk, word, words),
+        Some(_option) if is_flag(word) => Walked::Done(Given::Words),
+        Some(option) => value_given(walk, option, word),
     }
 }
 
@@ -273,12 +526,16 @@ fn all_given<'a>(command: Command, walk: Walk<'a>) -> Given<'a>
 {
     let Walk {
         collected,
+        options,
         file,
         inputs,
         waiting,
+        wanted,
     } = walk;
     match file {
-        Some(name) if waiting.is_none() => file_request(command, collected, name, inputs),
+        Some(name) if waiting.is_none() && wanted.is_none() => file_request(
+            command, collected, options, name, inputs,
+        ),
         _ => Given::Words,
     }
 }
@@ -289,9 +546,11 @@ fn given_after<'a, S: AsStr>(command: Command, words: &'a [S]) -> Given<'a>
 {
     let mut walk = Walk {
         collected: Collected::nothing(),
+        options: FileOptions::none(),
         file: None,
         inputs: Inputs::none(),
         waiting: None,
+        wanted: None,
     };
     for (i, word) in words.iter().enumerate() {
         match word_given(command, walk, word.as_str(), &words[i + 1..]) {
@@ -313,4 +572,52 @@ pub fn read_given<'a, S: AsStr>(words: &'a [S]) -> Given<'a>
         Some(command) => given_after(command, rest),
         None => Given::Words,
     }
+}
+
+/// The first word, if there is one.
+fn first_of<'a, S: AsStr>(words: &'a [S]) -> Option<&'a str>
+    ensures { option_map (λ s. s.now) result ≡ slice_get (map S.text words.now) 0 }
+{
+    match words.first() {
+        Some(word) => Some(word.as_str()),
+        None => None,
+    }
+}
+
+/// The value of the option of this name, which follows `=` in this word or is the next one, if the word names the option.
+fn value_of<'a, S: AsStr>(name: &str, word: &'a str, words: &'a [S]) -> Option<Option<&'a str>>
+    ensures { option_map (λ v. option_map (λ s. s.now) v) result ≡ value_of name.now (long_of word.now) (map S.text words.now) }
+{
+    let (found, value) = long_of(word)?;
+    if found != name {
+        return None;
+    }
+    match value {
+        Some(value) => Some(Some(value)),
+        None => Some(first_of(words)),
+    }
+}
+
+/// The same, or that there is none, where this word settles it: after `--` there are no options.
+fn value_found<'a, S: AsStr>(name: &str, word: &'a str, words: &'a [S]) -> Option<Option<&'a str>>
+    ensures { option_map (λ v. option_map (λ s. s.now) v) result ≡ value_found name.now word.now (map S.text words.now) }
+{
+    if word == "--" {
+        Some(None)
+    } else {
+        value_of(name, word, words)
+    }
+}
+
+/// The value that the option of this name has among words that name a file: what follows its name and `=`, or the next word. The words
+/// after `--` have no options. It takes no memory.
+pub fn option_value<'a, S: AsStr>(name: &str, words: &'a [S]) -> Option<&'a str>
+    ensures { option_map (λ s. s.now) result ≡ option_value name.now (map S.text words.now) }
+{
+    for (i, word) in words.iter().enumerate() {
+        if let Some(value) = value_found(name, word.as_str(), &words[i + 1..]) {
+            return value;
+        }
+    }
+    None
 }

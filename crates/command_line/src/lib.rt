@@ -11,8 +11,12 @@ mod inputs;
 mod options;
 mod sizes;
 
-pub use given::{FileName, FileRequest, Given, read_given};
+pub use given::{
+    FileName, FileOptions, FileRequest, Given, is_grid, option_value, read_given, row_length,
+};
 pub use inputs::Inputs;
+use mode::Mode;
+pub use options::parts_at;
 use options::{
     Collected, OptionName, Step, asks_help, asks_version, request_of, takes_inputs, word_met,
 };
@@ -104,17 +108,6 @@ pub enum EventFormat {
     Lines,
     /// Trace Event JSON, which browsers' tracing pages open.
     Chrome,
-}
-
-/// How the elements take turns.
-#[derive(Clone, Copy, Debug, PartialEq, Eq)]
-pub enum Mode {
-    /// One event after another, on one thread.
-    One,
-    /// In rounds, each element in a thread of its own.
-    Rounds,
-    /// Free, each element in a thread of its own for the whole run.
-    Free,
 }
 
 /// Which of its tokens an element takes next.
@@ -355,5 +348,5 @@ pub fn read_words<S: AsStr>(words: &[S]) -> Asked
 pub fn version_line() -> &'static [u8]
     ensures { result.now ≡ version_line }
 {
-    b"ets 0.3.4 (rattle-kit-13f)\n"
+    b"ets 0.3.5 (rattle-kit-13f)\n"
 }

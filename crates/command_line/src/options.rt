@@ -9,9 +9,9 @@ ghost use Rattle.command_line.specs.Words.{usual_sizes, valued, with_option, wit
 ghost use Rattle.command_line.specs.Words.{word_met};
 
 use crate::{
-    Command, EventFormat, Format, Inputs, Literals, Lowering, Mode, Request, RunOptions, Sizes,
-    Take,
+    Command, EventFormat, Format, Inputs, Literals, Lowering, Request, RunOptions, Sizes, Take,
 };
+use mode::Mode;
 
 /// The options of all commands.
 #[derive(Clone, Copy, Debug, PartialEq, Eq)]
@@ -223,7 +223,7 @@ fn first_number(before: Option<u64>, value: &str) -> Option<u64>
     }
 }
 
-fn number_of(text: &str) -> Option<u64>
+pub(crate) fn number_of(text: &str) -> Option<u64>
     ensures { result ≡ number_of text.now }
 {
     match text.parse::<u64>() {
@@ -520,8 +520,8 @@ pub(crate) fn asks_version(word: &str) -> bool
     word == "--version" || is_short('V', word)
 }
 
-/// What is before the first separator, and what is after it if there is one.
-fn parts_at(separator: char, text: &str) -> (&str, Option<&str>)
+/// What is before the first separator, an ASCII character, and what is after it if there is one.
+pub fn parts_at(separator: char, text: &str) -> (&str, Option<&str>)
     requires { separator < 128 }
     ensures { (result.0.now, option_map (λ s. s.now) result.1) ≡ parts_at separator text.now }
 {
@@ -532,7 +532,7 @@ fn parts_at(separator: char, text: &str) -> (&str, Option<&str>)
 }
 
 /// `--NAME` or `--NAME=VALUE`.
-fn long_of(word: &str) -> Option<(&str, Option<&str>)>
+pub(crate) fn long_of(word: &str) -> Option<(&str, Option<&str>)>
     ensures { option_map (λ p. (p.0.now, option_map (λ s. s.now) p.1)) result ≡ long_of word.now }
 {
     let rest = after(after(word, '-')?, '-')?;

@@ -9,12 +9,12 @@
 use clap::builder::ValueParser;
 use clap::error::{Error, ErrorKind};
 use clap::{Arg, ArgAction, Command, value_parser};
-use command_line::{Given, Request, Take, Topic, read_given};
+use command_line::{Given, Request, Take, Topic, is_grid, option_value, read_given};
 use std::alloc::{AllocError, Global};
 use std::convert::AsStr;
 
 /// The version of the program and the kit that it is made with, as in `command_line::version_line`.
-const VERSION: &str = "0.3.4 (rattle-kit-13f)";
+const VERSION: &str = "0.3.5 (rattle-kit-13f)";
 
 /// The formats in which a trace may be written.
 const FORMATS: [&str; 3] = ["text", "chrome", "html"];
@@ -64,6 +64,7 @@ The language, with its refusals: docs/LANGUAGE.md. What is printed: docs/FORMATS
 const AFTER_RUN: &str = "\
 Examples: ets run examples/factorial.df 20
           ets run --elements 4 --frames enough examples/factorial.df 20
+          ets run --cells C --grid C=8 examples/matrix_product.df 8
           ets run --elements 4 --frames 64 < examples/factorial.ets
 The report, the ends of a run and their exit statuses: docs/FORMATS.md, \"Report of `ets run`\".";
 
@@ -230,14 +231,67 @@ fn steps<'a>(alloc: Global, defaults: Defaults) -> Arg<'a> {
     )
 }
 
-fn take<'a>(alloc: Global, defaults: Defaults) -> Arg<'a> {
+fn take_of<'a>(alloc: Global, default: &'a str, help: &'a str) -> Arg<'a> {
     Arg::new(alloc, "take")
         .long("take")
         .value_name("ORDER")
-        .default_value(defaults.take)
-        .help(
-            "oldest: an element takes its oldest token; depth: the same, but requests for frames wait until few other tokens are left, which takes few frames, and with FILE is the default but for --mode free",
-        )
+        .default_value(default)
+        .help(help)
+}
+
+fn take<'a>(alloc: Global, defaults: Defaults) -> Arg<'a> {
+    take_of(
+        alloc,
+        defaults.take,
+        "oldest: an element takes its oldest token; depth: the same, but requests for frames wait until few other tokens are left, which takes few frames; with FILE depth if it is not given",
+    )
+}
+
+/// The one order of `orders`.
+fn any_taken<'a>(alloc: Global, defaults: Defaults) -> Arg<'a> {
+    take_of(
+        alloc,
+        defaults.take,
+        "oldest: requests for frames do not wait, and any token may be the next; there is no other order here",
+    )
+}
+
+/// The value of `--grid` as it is to be written.
+const GRID: [&str; 1] = ["ARRAY=N,.."];
+
+/// The options that say which cells a report prints, and how. They are for a file.
+fn with_report_options<'a>(
+    alloc: Global,
+    command: Command<'a>,
+    has_bad_grid: bool,
+) -> Result<Command<'a>, AllocError> {
+    let cells = Arg::new(alloc, "cells")
+        .long("cells")
+        .value_name("ARRAY,..")
+        .requires_arg("FILE")?
+        .help("print the full cells of these arrays of FILE, and of no other; none: no cells");
+    let grid = Arg::new(alloc, "grid")
+        .long("grid")
+        .value_name("ARRAY=N,..")
+        .requires_arg("FILE")?
+        .help("print the full cells of these arrays of FILE in rows of N, with - for an empty one");
+    let grid = if has_bad_grid {
+        grid.value_parser(ValueParser::Names(&GRID))
+            .hide_possible_values(true)
+    } else {
+        grid
+    };
+    command.arg(cells)?.arg(grid)
+}
+
+/// The option that leaves out warnings. It is for a file.
+fn with_quiet<'a>(alloc: Global, command: Command<'a>) -> Result<Command<'a>, AllocError> {
+    let quiet = Arg::new(alloc, "quiet")
+        .long("quiet")
+        .action(ArgAction::SetTrue)
+        .requires_arg("FILE")?
+        .help("no warnings of the program of FILE");
+    command.arg(quiet)
 }
 
 /// Adds the options that say how to run, of which `frames` is one.
@@ -275,19 +329,21 @@ fn lower_command<'a>(alloc: Global) -> Result<Command<'a>, AllocError> {
         .long("map")
         .action(ArgAction::SetTrue)
         .help("in place of the graph, the place in the program of each of its nodes");
-    Command::new(alloc, "lower")
+    let command = Command::new(alloc, "lower")
         .about(
             "Lowers the program of FILE or on standard input to a graph: its text, then a line `inputs` and its inputs, one a line",
         )
         .after_help(AFTER_LOWER)
         .arg(map)?
-        .arg(file(alloc, "a file with a program; - for standard input"))
+        .arg(file(alloc, "a file with a program; - for standard input"))?;
+    with_quiet(alloc, command)
 }
 
 fn run_command<'a>(
     alloc: Global,
     defaults: Defaults,
     enough: bool,
+    has_bad_grid: bool,
 ) -> Result<Command<'a>, AllocError> {
     let command = Command::new(alloc, "run")
         .about(
@@ -296,7 +352,9 @@ fn run_command<'a>(
         .after_help(AFTER_RUN);
     let command = with_file_and_inputs(alloc, command)?;
     let frames = frames_or_enough(alloc, defaults, enough);
-    with_run_options(alloc, command, frames, defaults)
+    let command = with_run_options(alloc, command, frames, defaults)?;
+    let command = with_report_options(alloc, command, has_bad_grid)?;
+    with_quiet(alloc, command)
 }
 
 fn exec_command<'a>(alloc: Global, defaults: Defaults) -> Result<Command<'a>, AllocError> {
@@ -314,7 +372,11 @@ fn exec_command<'a>(alloc: Global, defaults: Defaults) -> Result<Command<'a>, Al
     with_run_options(alloc, command, frames(alloc, defaults), defaults)
 }
 
-fn mean_command<'a>(alloc: Global, defaults: Defaults) -> Result<Command<'a>, AllocError> {
+fn mean_command<'a>(
+    alloc: Global,
+    defaults: Defaults,
+    has_bad_grid: bool,
+) -> Result<Command<'a>, AllocError> {
     let steps = number(
         alloc,
         "steps",
@@ -327,7 +389,9 @@ fn mean_command<'a>(alloc: Global, defaults: Defaults) -> Result<Command<'a>, Al
         )
         .after_help(AFTER_MEAN)
         .arg(steps)?;
-    with_file_and_inputs(alloc, command)
+    let command = with_file_and_inputs(alloc, command)?;
+    let command = with_report_options(alloc, command, has_bad_grid)?;
+    with_quiet(alloc, command)
 }
 
 fn dis_command<'a>(alloc: Global) -> Result<Command<'a>, AllocError> {
@@ -347,7 +411,7 @@ fn dot_command<'a>(alloc: Global) -> Result<Command<'a>, AllocError> {
         .long("code")
         .action(ArgAction::SetTrue)
         .help("the code of the object");
-    Command::new(alloc, "dot")
+    let command = Command::new(alloc, "dot")
         .about(
             "Draws the graph of a program or a graph of FILE, or the graph on standard input, as text for Graphviz",
         )
@@ -356,7 +420,8 @@ fn dot_command<'a>(alloc: Global) -> Result<Command<'a>, AllocError> {
         .arg(file(
             alloc,
             "a file with a program or a graph, or with --code an object; - for standard input",
-        ))
+        ))?;
+    with_quiet(alloc, command)
 }
 
 fn trace_command<'a>(alloc: Global, defaults: Defaults) -> Result<Command<'a>, AllocError> {
@@ -381,7 +446,8 @@ fn trace_command<'a>(alloc: Global, defaults: Defaults) -> Result<Command<'a>, A
         .arg(last)?
         .arg(format)?;
     let command = with_file_and_inputs(alloc, command)?;
-    with_run_options(alloc, command, frames(alloc, defaults), defaults)
+    let command = with_run_options(alloc, command, frames(alloc, defaults), defaults)?;
+    with_quiet(alloc, command)
 }
 
 fn profile_command<'a>(alloc: Global, defaults: Defaults) -> Result<Command<'a>, AllocError> {
@@ -407,10 +473,15 @@ fn profile_command<'a>(alloc: Global, defaults: Defaults) -> Result<Command<'a>,
         .arg(steps(alloc, defaults))?
         .arg(take(alloc, defaults))?
         .arg(svg)?;
-    with_file_and_inputs(alloc, command)
+    let command = with_file_and_inputs(alloc, command)?;
+    with_quiet(alloc, command)
 }
 
-fn orders_command<'a>(alloc: Global, defaults: Defaults) -> Result<Command<'a>, AllocError> {
+fn orders_command<'a>(
+    alloc: Global,
+    defaults: Defaults,
+    has_bad_grid: bool,
+) -> Result<Command<'a>, AllocError> {
     let command = Command::new(alloc, "orders")
         .about(
             "Runs a program or a graph of FILE, or a graph on standard input, followed by its inputs, in random orders of the tokens",
@@ -419,10 +490,20 @@ fn orders_command<'a>(alloc: Global, defaults: Defaults) -> Result<Command<'a>, 
         .arg(elements(alloc))?
         .arg(frames(alloc, defaults))?
         .arg(steps(alloc, defaults))?
-        .arg(take(alloc, defaults))?
+        .arg(any_taken(alloc, defaults))?
         .arg(number(alloc, "count", "100", "how many orders"))?
         .arg(number(alloc, "seed", "1", "which orders"))?;
-    with_file_and_inputs(alloc, command)
+    let command = with_file_and_inputs(alloc, command)?;
+    let command = with_report_options(alloc, command, has_bad_grid)?;
+    with_quiet(alloc, command)
+}
+
+/// Whether these words give `--grid` a text that is no value of it.
+fn has_bad_grid<S: AsStr>(words: &[S]) -> bool {
+    match option_value("grid", words) {
+        Some(value) => !is_grid(value),
+        None => false,
+    }
 }
 
 /// Whether these words give `--frames` the value `enough`.
@@ -444,6 +525,7 @@ pub fn program_command<'a, S: AsStr>(
     words: &[S],
 ) -> Result<Command<'a>, AllocError> {
     let defaults = defaults_of(words);
+    let bad_grid = has_bad_grid(words);
     let source = "a file with a program or a graph; - for standard input";
     let check = Command::new(alloc, "check")
         .about("Says whether a program of FILE, or a graph of FILE or on standard input, is good")
@@ -471,18 +553,18 @@ pub fn program_command<'a, S: AsStr>(
         .version(VERSION)
         .subcommand_required(true)
         .subcommand(lower_command(alloc)?)?
-        .subcommand(check)?
-        .subcommand(compile)?
+        .subcommand(with_quiet(alloc, check)?)?
+        .subcommand(with_quiet(alloc, compile)?)?
         .subcommand(dis_command(alloc)?)?
         .subcommand(asm)?
         .subcommand(upgrade)?
         .subcommand(dot_command(alloc)?)?
         .subcommand(exec_command(alloc, defaults)?)?
-        .subcommand(mean_command(alloc, defaults)?)?
-        .subcommand(run_command(alloc, defaults, has_enough(words))?)?
+        .subcommand(mean_command(alloc, defaults, bad_grid)?)?
+        .subcommand(run_command(alloc, defaults, has_enough(words), bad_grid)?)?
         .subcommand(trace_command(alloc, defaults)?)?
         .subcommand(profile_command(alloc, defaults)?)?
-        .subcommand(orders_command(alloc, defaults)?)
+        .subcommand(orders_command(alloc, defaults, bad_grid)?)
 }
 
 /// What `clap` gives instead of a reading of the words, if it has none.

@@ -16,7 +16,7 @@ use Rattle.object_view.specs.Reading.{opened}
 use Rattle.object_view.specs.declared.fault.ObjectFault.{ObjectFault}
 use Rattle.dot.specs.GraphDot.{graph_dot}
 use Rattle.report_text.specs.ReportText.{report_text, meaning_text, object_report_text}
-use Rattle.command_line.specs.declared.Mode.{Mode}
+use Rattle.mode.specs.declared.Mode.{Mode}
 use Rattle.command_line.specs.declared.RunOptions.{RunOptions}
 use Rattle.command_line.specs.declared.Take.{Take}
 use Rattle.schedule.specs.declared.take.Take.{Take as Tokens}

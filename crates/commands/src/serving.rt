@@ -18,7 +18,7 @@ use crate::refusal::{fault_refusal, input_refusal};
 use crate::refusal_text::write_refusal;
 use crate::tracing::print_trace;
 use command_line::{
-    Asked, Inputs, Literals, Lowering, Mode, Request, RunOptions, Take, read_words, version_line,
+    Asked, Inputs, Literals, Lowering, Request, RunOptions, Take, read_words, version_line,
 };
 use command_texts::{help_text, mistake_text};
 use dot::write_graph_dot;
@@ -32,6 +32,7 @@ use driver::order::Order;
 use driver::resources::Resources;
 use driver::running::{check_start, open_code, run_code_quietly};
 use loaded::Loaded;
+use mode::Mode;
 use outcomes::{Ending, Outcome, Refusal};
 use report_text::{write_meaning, write_object_report, write_report};
 use rounds::Gate;

@@ -16,7 +16,7 @@ use Rattle.semantics.specs.Report.{Report, IsPicture, HasEnd, Shows}
 use Rattle.schedule.specs.declared.config.Config.{Config}
 use Rattle.schedule.specs.declared.take.Take.{Take}
 use Rattle.schedule.specs.declared.take.Take.TheVariants.{Oldest}
-use Rattle.command_line.specs.declared.Mode.{Mode}
+use Rattle.mode.specs.declared.Mode.{Mode}
 use Rattle.schedule.specs.Setting.{inputs_of as inputs_of_program}
 use Rattle.schedule.specs.Unlisted.{with_events, Quietly}
 use Rattle.driver.specs.Headline.{ShowsMemory, IsBoundedByMeaning, ReportsMeaning, ReportsOf, ReportsTruth, ReportsTruthByList, ReportsTruthIn}

@@ -7,7 +7,7 @@ use Rattle.schedule.specs.declared.config.Config.{Config}
 use Rattle.schedule.specs.declared.halt.Halt.{Halt}
 use Rattle.schedule.specs.declared.take.Take.{Take}
 use Rattle.schedule.specs.declared.take.Take.TheVariants.{Oldest, Depth}
-use Rattle.command_line.specs.declared.Mode.{Mode}
+use Rattle.mode.specs.declared.Mode.{Mode}
 use Rattle.driver.specs.declared.order.Order.{Order}
 use Rattle.schedule.specs.Starts.{Opens}
 use Rattle.schedule.specs.Runs.{SoFar, Plays, rounds_of}

@@ -3,7 +3,7 @@
 ghost use Rattle.std.specs.Prelude.{◌≡◌};
 ghost use Rattle.driver.specs.Orders.{order_of};
 
-use command_line::Mode;
+use mode::Mode;
 use schedule::take::Take;
 
 /// In which order the events of a run are made.

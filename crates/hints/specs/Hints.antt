@@ -76,5 +76,5 @@ wants_hint (Some (Outcome.Refused f)) = true
 wants_hint (Some (Outcome.Reported e)) = ending_wants e
 wants_hint (Some (Outcome.Profiled end failed)) = profile_wants end failed
 wants_hint (Some (Outcome.Drawn e)) = false
-wants_hint (Some (Outcome.Paged e events)) = nat_lt 200000 events
+wants_hint (Some (Outcome.Paged e events)) = nat_lt 1000000 events
 wants_hint (Some Outcome.Differed) = true

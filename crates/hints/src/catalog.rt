@@ -70,7 +70,7 @@ named-clash: a second store came to cell $a of array $p: a cell takes one store 
 named-clash-of: a second store came to cell $a of array $p, and the stores of the array are in lines $x: a cell takes one store in a run
 stuck-object: the object is at fault, as no object of `ets compile` is, and the report does not name the token: `ets dis` lists the code, and docs/DEFINITIONS.md has the rules, in part 4
 stuck: compiled code never makes such a token: this is a fault of ets
-large-page: a page of more than 200000 events is slow to open: --last K makes one of the last K events
+large-page: a page of more than 1000000 events is slow to open: --last K makes one of the last K events
 digits: `$p` is no number: that is digits alone
 no-literal: `$p` is no literal: that is digits, and `-` before them if it is below 0
 large-literal: `$p` is not within 64 bits, from -9223372036854775808 to 9223372036854775807
@@ -168,15 +168,16 @@ other/object/listing: standard input is an object: `ets dis` makes a listing of 
 other/listing/graph: standard input is a listing, and `ets $1` reads a graph; `ets asm` makes an object of a listing
 other/listing/program: standard input is a listing, and `ets $1` reads a program; `ets asm` makes an object of a listing
 other/listing/object: standard input is a listing: `ets asm` makes an object of it
-options/run: the options of `ets $1` are --elements N (1 to 16), --frames N (1 to 1024) or enough, --steps N (at most 4294967296), --mode one, rounds or free, --turn N (1 to 65536), and --take oldest or depth, each at most once
+options/run: the options of `ets $1` are --elements N (1 to 16), --frames N (1 to 1024) or enough, --steps N (at most 4294967296), --mode one, rounds or free, --turn N (1 to 65536), --take oldest or depth, and with a file --cells A,B or none, --grid A=N and --quiet, each at most once
 options/exec: the options of `ets $1` are --elements N (1 to 16), --frames N (1 to 1024), --steps N (at most 4294967296), --mode one, rounds or free, --turn N (1 to 65536), and --take oldest or depth, each at most once; all other words are a file and inputs
-options/trace: the options of `ets $1` are --last N, --format text, chrome or html, --elements N (1 to 16), --frames N (1 to 1024), --steps N (at most 4294967296), --mode one, rounds or free, --turn N (1 to 65536), and --take oldest or depth, each at most once
-options/profile: the options of `ets $1` are --elements N,N,.. (each 1 to 16), --frames N (1 to 1024), --steps N (at most 4294967296), --take oldest or depth, and --svg, each at most once
-options/orders: the options of `ets $1` are --count N, --seed N, --elements N (1 to 16), --frames N (1 to 1024), --steps N (at most 4294967296), and --take oldest or depth, each at most once
-options/mean: the options of `ets $1` are --steps N, at most once
+options/trace: the options of `ets $1` are --last N, --format text, chrome or html, --elements N (1 to 16), --frames N (1 to 1024), --steps N (at most 4294967296), --mode one, rounds or free, --turn N (1 to 65536), --take oldest or depth, and with a file --quiet, each at most once
+options/profile: the options of `ets $1` are --elements N,N,.. (each 1 to 16), --frames N (1 to 1024), --steps N (at most 4294967296), --take oldest or depth, --svg, and with a file --quiet, each at most once
+options/orders: the options of `ets $1` are --count N, --seed N, --elements N (1 to 16), --frames N (1 to 1024), --steps N (at most 4294967296), --take oldest, and with a file --cells A,B or none, --grid A=N and --quiet, each at most once
+options/mean: the options of `ets $1` are --steps N, and with a file --cells A,B or none, --grid A=N and --quiet, each at most once
 options/dis: the options of `ets $1` are --literals, at most once
-options/dot: the options of `ets $1` are --code, at most once
-options/lower: the options of `ets $1` are --map, at most once
+options/dot: the options of `ets $1` are --code, and with a file --quiet, each at most once
+options/lower: the options of `ets $1` are --map, and with a file --quiet, each at most once
+options/check, compile: the option of `ets $1` is --quiet, with a file, at most once; it reads a file, `ets $1 FILE`, or standard input, `ets $1 < FILE`
 outer/array: array NAME LEN
 outer/block: block NAME INPUTS OUTPUTS
 outer/main: main NAME
@@ -198,7 +199,7 @@ next/fn, array: the next item begins
 head/etsgraph: other/graph/
 head/ets: other/listing/
 head/fn, array: other/program/
-alone/--, --literals, --code, --svg, --map: no value follows
+alone/--, --literals, --code, --svg, --map, --quiet: no value follows
 item/}: no block is open that this `}` could close
 item/;: no `;` comes after the body of a function
 name/array, fn, let, if, else, loop, while, strict: `$1` is a word of the language, and no name

@@ -293,17 +293,37 @@ fn more_of<A: Allocator + Clone>(
     }
 }
 
-/// The line that shows this cause, and more faults after it. Of a file it says what it would say of standard input.
+/// What a hint is of, as far as its words depend on it.
+#[derive(Clone, Copy)]
+struct Said {
+    /// The words name a file.
+    is_file: bool,
+    /// A program is known, of which the graph was made.
+    is_program: bool,
+}
+
+/// A loop in the text of a graph.
+const LOOP_OF_GRAPH: &str = "`loop F k ..`";
+
+/// The line that shows this cause, and more faults after it. Of a file it says what it would say of standard input, and of a program's loop
+/// how that is written there.
 fn line_of<A: Allocator + Clone>(
     alloc: A,
     found: &Found<'_>,
     more: MoreFaults,
-    is_file: bool,
+    said: Said,
 ) -> Result<Line<A>, AllocError> {
     let text = format!(in alloc.clone()?; "{found}{more}")?;
     match text.as_str().strip_prefix("standard input is ") {
-        Some(rest) if is_file => {
+        Some(rest) if said.is_file => {
             let text = format!(in alloc.clone()?; "the file is {rest}")?;
+            return Line::of(alloc, text.as_str());
+        }
+        _ => {}
+    }
+    match text.as_str().split_once(LOOP_OF_GRAPH) {
+        Some((before, after)) if said.is_program => {
+            let text = format!(in alloc.clone()?; "{before}`loop k (..)`{after}")?;
             Line::of(alloc, text.as_str())
         }
         _ => Line::of(alloc, text.as_str()),
@@ -356,18 +376,21 @@ fn explained<'a, S: AsStr, A: Allocator + Clone>(
         None => found,
     };
     let found = enough_frames(alloc.clone()?, &found, program, input)?.unwrap_or(found);
-    let is_file = name_file(words);
+    let said = Said {
+        is_file: name_file(words),
+        is_program: program.is_some(),
+    };
     let place = match found.place {
         Some(cause) => Some(line_of(
             alloc.clone()?,
             &Found { cause, ..found },
             MoreFaults::none(),
-            is_file,
+            said,
         )?),
         None => None,
     };
     let more = more_of(&alloc, input, outcome)?;
-    let cause = line_of(alloc, &found, more, is_file)?;
+    let cause = line_of(alloc, &found, more, said)?;
     Ok(Some(Hint { place, cause }))
 }
 

@@ -15,7 +15,8 @@ use crate::lines::{
 use crate::message::{Counted, Found, Special, nowhere};
 use crate::sources::{Program, Sought as SoughtNodes, Source};
 use crate::words::{Sought, first_of, plain_at};
-use command_line::{Inputs, Mode, Request, RunOptions, Sizes, Take};
+use command_line::{Inputs, Request, RunOptions, Sizes, Take};
+use mode::Mode;
 use object_view::Object;
 use oracle::MeanEnd;
 use outcomes::{Ending, FailedRow, MadeFault};
@@ -536,7 +537,7 @@ pub fn profile_fault<'a>(
 
 /// What is said of a page that shows this many events.
 pub fn page_fault<'a>(events: u64) -> Option<Found<'a>>
-    ensures { is_some result ≡ nat_lt 200000 events }
+    ensures { is_some result ≡ nat_lt 1000000 events }
 {
-    (events > 200_000).then_some(nowhere("large-page", [""; 2]))
+    (events > 1_000_000).then_some(nowhere("large-page", [""; 2]))
 }

@@ -12,7 +12,7 @@ use Rattle.std.proofs.DigitsParse.{digits_onto-nil, digit_glyph_below_ten}
 use Rattle.sink.specs.Numbered.{numbered}
 use Rattle.trace_text.specs.TraceText.{paired}
 use Rattle.semantics.specs.Text.{IsName, IsNameRest, literal}
-use Rattle.html_text.specs.Plain.{is_markup, is_special, IsPlain, IsInert, IsQuotable}
+use Rattle.html_text.specs.Plain.{is_markup, is_special, IsPlain, IsInert, IsQuotable, IsInPart, IsInWord}
 
 -- THE TESTS
 abbrev pub plain : ℕ → Bool
@@ -23,6 +23,12 @@ inert c = not (is_markup c)
 
 abbrev pub quotable : ℕ → Bool
 quotable c = nat_le 32 c && plain c
+
+abbrev pub in_part : ℕ → Bool
+in_part c = quotable c && not (c == 59)
+
+abbrev pub in_word : ℕ → Bool
+in_word c = in_part c && not (c == 58)
 
 -- LISTS
 module _ (test : ℕ → Bool) where
@@ -81,11 +87,26 @@ inert_means c e = not-true (is_markup c) e
 pub quotable_means : (c : ℕ) → quotable c ≡ true → IsQuotable c
 quotable_means c e = let h = and_parts (nat_le 32 c) (plain c) e in (leb-true 32 c h.0, plain_means c h.1)
 
+pub in_part_means : (c : ℕ) → in_part c ≡ true → IsInPart c
+in_part_means c e = let h = and_parts (quotable c) (not (c == 59)) e in (quotable_means c h.0, not-true (c == 59) h.1)
+
+pub in_word_means : (c : ℕ) → in_word c ≡ true → IsInWord c
+in_word_means c e = let h = and_parts (in_part c) (not (c == 58)) e in (in_part_means c h.0, not-true (c == 58) h.1)
+
+pub word_part : (c : ℕ) → in_word c ≡ true → in_part c ≡ true
+word_part c e = (and_parts (in_part c) (not (c == 58)) e).0
+
+pub part_quotable : (c : ℕ) → in_part c ≡ true → quotable c ≡ true
+part_quotable c e = (and_parts (quotable c) (not (c == 59)) e).0
+
 pub quotable_plain : (c : ℕ) → quotable c ≡ true → plain c ≡ true
 quotable_plain c e = (and_parts (nat_le 32 c) (plain c) e).1
 
 pub plain_inert : (c : ℕ) → plain c ≡ true → inert c ≡ true
 plain_inert c e = ap not (or_parts (c == 34) (is_markup c) (plain_means c e)).1
+
+pub word_plain : (c : ℕ) → in_word c ≡ true → plain c ≡ true
+word_plain c e = quotable_plain c (part_quotable c (word_part c e))
 
 pub quotable_inert : (c : ℕ) → quotable c ≡ true → inert c ≡ true
 quotable_inert c e = plain_inert c (quotable_plain c e)
@@ -116,28 +137,33 @@ name_plain (c ∷ cs) is = and_from (plain c) (list_all plain cs) (name_byte c (
 digit_quotable : (c : ℕ) → 48 ≤ c → c ≤ 57 → quotable c ≡ true
 digit_quotable c low high = and_from (nat_le 32 c) (plain c) (le-leb 32 c (omega (arith, low))) (name_byte c (inr (inl (low, high))))
 
-glyph_quotable : (n : ℕ) → quotable (digit_glyph false (n % 10)) ≡ true
-glyph_quotable n =
+digit_in_word : (c : ℕ) → 48 ≤ c → c ≤ 57 → in_word c ≡ true
+digit_in_word c low high = and_from (in_part c) (not (c == 58))
+    (and_from (quotable c) (not (c == 59)) (digit_quotable c low high) (ap not (ne_eqb c 59 (λ e. omega (arith, high, e)))))
+    (ap not (ne_eqb c 58 (λ e. omega (arith, high, e))))
+
+glyph_in_word : (n : ℕ) → in_word (digit_glyph false (n % 10)) ≡ true
+glyph_in_word n =
     let d : ℕ = 48 + n % 10 in
     let less : n % 10 < 10 = omega arith in
     let is : d ≡ digit_glyph false (n % 10) = digit_glyph_below_ten false (n % 10) d less refl in
-    ap quotable (sym is) ∙ digit_quotable d (omega arith) (omega (arith, less))
+    ap in_word (sym is) ∙ digit_in_word d (omega arith) (omega (arith, less))
 
-spelled : (k n : ℕ) (acc : List ℕ) → list_all quotable acc ≡ true → list_all quotable (digits_onto k 10 false n acc) ≡ true
+spelled : (k n : ℕ) (acc : List ℕ) → list_all in_word acc ≡ true → list_all in_word (digits_onto k 10 false n acc) ≡ true
 spelled zero n acc all = all
 spelled (suc k) n acc all = by (n / 10 == 0) (spelled k (n / 10) (digit_glyph false (n % 10) ∷ acc) more)
   where
-    more : list_all quotable (digit_glyph false (n % 10) ∷ acc) ≡ true
-    more = and_from (quotable (digit_glyph false (n % 10))) (list_all quotable acc) (glyph_quotable n) all
+    more : list_all in_word (digit_glyph false (n % 10) ∷ acc) ≡ true
+    more = and_from (in_word (digit_glyph false (n % 10))) (list_all in_word acc) (glyph_in_word n) all
 
-    by : (t : Bool) → list_all quotable (digits_onto k 10 false (n / 10) (digit_glyph false (n % 10) ∷ acc)) ≡ true
-        → list_all quotable (if t then digit_glyph false (n % 10) ∷ acc else digits_onto k 10 false (n / 10) (digit_glyph false (n % 10) ∷ acc)) ≡ true
+    by : (t : Bool) → list_all in_word (digits_onto k 10 false (n / 10) (digit_glyph false (n % 10) ∷ acc)) ≡ true
+        → list_all in_word (if t then digit_glyph false (n % 10) ∷ acc else digits_onto k 10 false (n / 10) (digit_glyph false (n % 10) ∷ acc)) ≡ true
     by true longer = more
     by false longer = longer
 
-pub number : (n : ℕ) → list_all quotable (decimal n) ≡ true
-number n = subst (λ (bs : List ℕ). list_all quotable bs ≡ true) (digits_onto-nil 10 false n) (spelled 64 n [] refl)
+pub number : (n : ℕ) → list_all in_word (decimal n) ≡ true
+number n = subst (λ (bs : List ℕ). list_all in_word bs ≡ true) (digits_onto-nil 10 false n) (spelled 64 n [] refl)
 
-pub integer : (z : ℤ) → list_all quotable (literal z) ≡ true
+pub integer : (z : ℤ) → list_all in_word (literal z) ≡ true
 integer (pos n) = number n
 integer (negsuc n) = number (n + 1)

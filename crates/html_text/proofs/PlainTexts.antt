@@ -1,8 +1,10 @@
 -- Words, data, listings and graphs have no byte that a page would have to escape.
-use Rattle.std.proofs.Common.{◌≡◌, refl, sym, subst, ℕ, zero, suc, ◌-◌, ◌≤◌, true, false, ℤ, List, [], ◌∷◌, ◌++◌, length, Option}
+use Rattle.std.proofs.Common.{◌≡◌, refl, sym, ap, ◌∙◌, subst, ℕ, zero, suc, ◌+◌, ◌-◌, ◌≤◌, true, false, ℤ, pos, List, [], ◌∷◌, ◌++◌, length, Option}
 use Rattle.std.proofs.Common.{Some, None}
-use Rattle.std.specs.Prelude.{decimal, codes, flat_map}
+use Rattle.std.specs.Prelude.{decimal, codes, flat_map, ◌-ℤ◌}
+use Rattle.std.specs.Prelude.{All}
 use Rattle.std.specs.List.{list_all}
+use Rattle.std.proofs.lemmas.List.{append_assoc}
 use Rattle.tags.specs.declared.value.FaultKind.{FaultKind}
 use Rattle.tags.specs.declared.value.Origin.{Origin}
 use Rattle.tags.specs.declared.value.Value.{Value}
@@ -33,21 +35,28 @@ use Rattle.disassembler.specs.Listing as list
 use Rattle.disassembler.specs.Listing.{spaces, gap, right_in, left_in, slot_text, port_letter, dest_text, operand_text, instr_line, block_line}
 use Rattle.disassembler.specs.Listing.{block_lines, head_line}
 use Rattle.trace_text.specs.TraceText as trace
-use Rattle.trace_text.specs.TraceText.{kind_word, value_text, cont_text, word_text, deed_text, paired}
+use Rattle.trace_text.specs.TraceText.{kind_word, value_text, cont_text, word_text, paired}
 use Rattle.replay.specs.declared.moment.Deed.{Deed}
 use Rattle.replay.specs.declared.entry.Change.{Change}
 use Rattle.replay.specs.Views.{EntryView, BooksView}
-use Rattle.html_text.specs.DataText.{number_text, last_number_text, last_word_text, number_word_text, numbers_text, token_text, comma, listed_token}
-use Rattle.html_text.specs.DataText.{tokens_text}
-use Rattle.html_text.specs.DataText.{state_text, change_text, line_lead, event_head, event_text, listed_change, changes_text, listed_number, listed_numbers}
+use Rattle.html_text.specs.DataText.{number_text, tagged_word, number_word_text, numbers_text, beyond_text, token_text, semicolon, listed_token}
+use Rattle.html_text.specs.DataText.{tokens_text, deed_letter}
+use Rattle.html_text.specs.DataText.{state_text, change_text, line_lead, event_head, event_text, listed_change, changes_text, comma, listed_number, listed_numbers}
 use Rattle.html_text.specs.DataText.{size_text, before_text, start_text, data_text}
-use Rattle.html_text.specs.Plain.{IsPlain, IsInert, IsQuotable, WordsAreQuotable, DataIsInert, ListingsArePlain, GraphsArePlain}
-use Rattle.html_text.proofs.Bytes.{plain, inert, quotable, Passing, joined, join_all, all_from, all_numbered, all_paired, all_each, lift, plain_means}
-use Rattle.html_text.proofs.Bytes.{inert_means, quotable_means}
-use Rattle.html_text.proofs.Bytes.{quotable_plain, quotable_inert, name_plain, number, integer}
+use Rattle.html_text.specs.Plain.{IsPlain, IsInert, IsQuotable, IsInPart, IsInWord, WordsAreWhole, PartsAreWhole, StringsAreQuotable, DataIsInert}
+use Rattle.html_text.specs.Plain.{ListingsArePlain, GraphsArePlain}
+use Rattle.html_text.proofs.Bytes.{plain, inert, quotable, in_part, in_word, Passing, joined, join_all, all_from, all_numbered, all_paired, all_each, lift, plain_means}
+use Rattle.html_text.proofs.Bytes.{inert_means, quotable_means, in_part_means, in_word_means}
+use Rattle.html_text.proofs.Bytes.{word_part, part_quotable, word_plain, quotable_inert, name_plain, number, integer}
 
 abbrev pub Quotable : List ℕ → Type 0
 Quotable xs = list_all quotable xs ≡ true
+
+abbrev pub InPart : List ℕ → Type 0
+InPart xs = list_all in_part xs ≡ true
+
+abbrev pub InWord : List ℕ → Type 0
+InWord xs = list_all in_word xs ≡ true
 
 abbrev pub Plain : List ℕ → Type 0
 Plain xs = list_all plain xs ≡ true
@@ -56,142 +65,196 @@ abbrev pub Inert : List ℕ → Type 0
 Inert xs = list_all inert xs ≡ true
 
 -- WORDS
+in_words : (first : Passing in_word) (pieces : List (Passing in_word)) → InWord (joined in_word first.0 pieces)
+in_words = join_all in_word
+
+port_word : (p : Port) → InWord (port_letter p)
+port_word Port.Left = refl
+port_word Port.Right = refl
+
+kind_is_word : (k : FaultKind) → InWord (kind_word k)
+kind_is_word FaultKind.Zero = refl
+kind_is_word FaultKind.Range = refl
+
+origin_word : (o : Origin) → InWord (trace.origin_text o)
+origin_word Origin.Untold = refl
+origin_word (Origin.At b n) = in_words (codes " at", refl) ((field (decimal b), number b) ∷ (field (decimal n), number n) ∷ [])
+
+value_word : (v : Value) → InWord (value_text v)
+value_word (Value.Int z) = integer z
+value_word (Value.Fault k o) = in_words (codes "fault", refl) ((field (kind_word k), kind_is_word k) ∷ (trace.origin_text o, origin_word o) ∷ [])
+
+cont_word : (c : Cont) → InWord (cont_text c)
+cont_word (Cont.Frame f ip p) = in_words (codes "to", refl) ((field (decimal f), number f) ∷ (field (decimal ip), number ip) ∷
+    (field (port_letter p), port_word p) ∷ [])
+cont_word (Cont.Host j) = in_words (codes "to host", refl) ((field (decimal j), number j) ∷ [])
+
+word_is_word : (w : Word) → InWord (word_text w)
+word_is_word (Word.Val v) = value_word v
+word_is_word (Word.Frame f) = in_words (codes "frame", refl) ((field (decimal f), number f) ∷ [])
+word_is_word (Word.Back c) = cont_word c
+
+pub words : WordsAreWhole
+words w = all_from in_word IsInWord in_word_means (word_text w) (word_is_word w)
+
+-- DATA. The parts of its strings
+in_parts : (first : Passing in_part) (pieces : List (Passing in_part)) → InPart (joined in_part first.0 pieces)
+in_parts = join_all in_part
+
+of_word : (xs : List ℕ) → InWord xs → InPart xs
+of_word xs q = lift in_word in_part word_part xs q
+
+letter_part : (d : Deed) → InPart (deed_letter d)
+letter_part Deed.Waited = refl
+letter_part Deed.Fired = refl
+letter_part Deed.Answered = refl
+letter_part Deed.Deferred = refl
+letter_part Deed.Stored = refl
+letter_part Deed.Served = refl
+letter_part Deed.Given = refl
+letter_part Deed.Queued = refl
+letter_part Deed.Freed = refl
+letter_part Deed.HandedOn = refl
+letter_part Deed.Arrived = refl
+
+number_part : (tag : List ℕ) (n : ℕ) → InPart tag → InPart (number_text tag n)
+number_part tag n t = in_parts (tag, t) ((decimal n, of_word (decimal n) (number n)) ∷ [])
+
+tagged_part : (tag : List ℕ) (w : Word) → InPart tag → InPart (tagged_word tag w)
+tagged_part tag w t = in_parts (tag, t) ((word_text w, of_word (word_text w) (word_is_word w)) ∷ [])
+
+number_word_part : (tag : List ℕ) (n : ℕ) (w : Word) → InPart tag → InPart (number_word_text tag n w)
+number_word_part tag n w t = in_parts (number_text tag n, number_part tag n t)
+    ((tagged_word (codes ":") w, tagged_part (codes ":") w refl) ∷ [])
+
+numbers_part : (tag : List ℕ) (n m : ℕ) → InPart tag → InPart (numbers_text tag n m)
+numbers_part tag n m t = in_parts (number_text tag n, number_part tag n t)
+    ((number_text (codes ",") m, number_part (codes ",") m refl) ∷ [])
+
+token_part : (t : To) (w : Word) → InPart (token_text t w)
+token_part (To.Instr f ip port) w = in_parts (numbers_text (port_letter port) f ip, numbers_part (port_letter port) f ip (of_word (port_letter port) (port_word port)))
+    ((tagged_word (codes ":") w, tagged_part (codes ":") w refl) ∷ [])
+token_part (To.Fetch x) w = number_word_part (codes "f") x w refl
+token_part (To.Store x v) w = in_parts (number_word_text (codes "s") x (Word.Val v), number_word_part (codes "s") x (Word.Val v) refl)
+    ((tagged_word (codes ":") w, tagged_part (codes ":") w refl) ∷ [])
+token_part To.Manager w = tagged_part (codes "q:") w refl
+token_part (To.Release f) w = number_part (codes "b") f refl
+token_part (To.Host j) w = number_word_part (codes "h") j w refl
+
+state_part : (s : SlotState) → InPart (state_text s)
+state_part SlotState.Empty = refl
+state_part (SlotState.Left w) = tagged_part (codes "l:") w refl
+state_part (SlotState.Right w) = tagged_part (codes "r:") w refl
+state_part (SlotState.Credits n) = number_part (codes "c") n refl
+state_part (SlotState.Waiter c) = tagged_part (codes "w:") (Word.Back c) refl
+state_part (SlotState.Draining n) = number_part (codes "d") n refl
+
+change_part : (c : Change) → InPart (change_text c)
+change_part Change.Nothing = refl
+change_part (Change.Slot f r v) = in_parts (numbers_text (codes "s") f r, numbers_part (codes "s") f r refl) ((state_text v, state_part v) ∷ [])
+change_part (Change.Reader x c) = number_word_part (codes "+") x (Word.Back c) refl
+change_part (Change.Filled x v) = number_word_part (codes "v") x (Word.Val v) refl
+change_part (Change.Out f) = number_part (codes "o") f refl
+change_part (Change.Free f) = number_part (codes "f") f refl
+change_part (Change.Queued c) = tagged_part (codes "q:") (Word.Back c) refl
+change_part (Change.Handed f) = number_part (codes "h") f refl
+change_part (Change.Output j v) = number_word_part (codes "p") j (Word.Val v) refl
+change_part (Change.Done j w) = number_word_part (codes "p") j w refl
+
+beyond_part : (d : Deed) (k m : ℕ) → InPart (beyond_text (deed_letter d) k m)
+beyond_part d k m = in_parts (deed_letter d, letter_part d) ((literal (pos k -ℤ pos m), of_word (literal (pos k -ℤ pos m)) (integer (pos k -ℤ pos m))) ∷ [])
+
+head_part : (e : ℕ) (d : Deed) (k m : ℕ) → InPart (decimal e ++ beyond_text (deed_letter d) k m)
+head_part e d k m = in_parts (decimal e, of_word (decimal e) (number e)) ((beyond_text (deed_letter d) k m, beyond_part d k m) ∷ [])
+
+pub parts : PartsAreWhole
+parts = (
+  λ e d k m. all_from in_part IsInPart in_part_means (decimal e ++ beyond_text (deed_letter d) k m) (head_part e d k m),
+  λ c. all_from in_part IsInPart in_part_means (change_text c) (change_part c),
+  λ t. all_from in_part IsInPart in_part_means (token_text t.to t.word) (token_part t.to t.word),
+)
+
+-- what stands between the quotation marks
 quotables : (first : Passing quotable) (pieces : List (Passing quotable)) → Quotable (joined quotable first.0 pieces)
 quotables = join_all quotable
 
-port_quotable : (p : Port) → Quotable (port_letter p)
-port_quotable Port.Left = refl
-port_quotable Port.Right = refl
+of_part : (xs : List ℕ) → InPart xs → Quotable xs
+of_part xs q = lift in_part quotable part_quotable xs q
 
-kind_quotable : (k : FaultKind) → Quotable (kind_word k)
-kind_quotable FaultKind.Zero = refl
-kind_quotable FaultKind.Range = refl
+semicolon_quotable : (n : ℕ) → Quotable (semicolon n)
+semicolon_quotable zero = refl
+semicolon_quotable (suc n) = refl
 
-origin_quotable : (o : Origin) → Quotable (trace.origin_text o)
-origin_quotable Origin.Untold = refl
-origin_quotable (Origin.At b n) = quotables (codes " at", refl) ((field (decimal b), number b) ∷ (field (decimal n), number n) ∷ [])
+tokens_quotable : (ts : List Token) → Quotable (tokens_text ts)
+tokens_quotable ts = all_numbered quotable listed_token (λ n t. quotables (semicolon n, semicolon_quotable n)
+    ((token_text t.to t.word, of_part (token_text t.to t.word) (token_part t.to t.word)) ∷ [])) 0 ts
 
-value_quotable : (v : Value) → Quotable (value_text v)
-value_quotable (Value.Int z) = integer z
-value_quotable (Value.Fault k o) = quotables (codes "fault", refl) ((field (kind_word k), kind_quotable k) ∷ (trace.origin_text o, origin_quotable o) ∷ [])
+change_quotable : (c : Change) → Quotable (change_text c)
+change_quotable c = of_part (change_text c) (change_part c)
 
-cont_quotable : (c : Cont) → Quotable (cont_text c)
-cont_quotable (Cont.Frame f ip p) = quotables (codes "to", refl) ((field (decimal f), number f) ∷ (field (decimal ip), number ip) ∷
-    (field (port_letter p), port_quotable p) ∷ [])
-cont_quotable (Cont.Host j) = quotables (codes "to host", refl) ((field (decimal j), number j) ∷ [])
+-- of an event, after the element's number
+abbrev rest_of : ℕ → EntryView → List (Passing quotable)
+rest_of event x = (beyond_text (deed_letter x.deed) x.number event, of_part (beyond_text (deed_letter x.deed) x.number event) (beyond_part x.deed x.number event)) ∷
+    (codes ";", refl) ∷ (change_text x.change, change_quotable x.change) ∷ (codes ";", refl) ∷ (tokens_text x.made, tokens_quotable x.made) ∷ []
 
-word_quotable : (w : Word) → Quotable (word_text w)
-word_quotable (Word.Val v) = value_quotable v
-word_quotable (Word.Frame f) = quotables (codes "frame", refl) ((field (decimal f), number f) ∷ [])
-word_quotable (Word.Back c) = cont_quotable c
+-- a text before pieces that are joined
+apart : (lead first : List ℕ) (pieces : List (Passing quotable)) → joined quotable (lead ++ first) pieces ≡ lead ++ joined quotable first pieces
+apart lead first [] = refl
+apart lead first (piece ∷ pieces) = ap (λ (bs : List ℕ). joined quotable bs pieces) (append_assoc lead first piece.0) ∙ apart lead (first ++ piece.0) pieces
 
-pub words : WordsAreQuotable
-words w = all_from quotable IsQuotable quotable_means (word_text w) (word_quotable w)
+event_string : (first n : ℕ) (ev : ℕ × Token) (x : EntryView) → (string : List ℕ) × (event_text first n ev x ≡ line_lead n ++ string ++ codes "\"")
+    × All IsQuotable string
+event_string first n ev x =
+    let string : List ℕ = joined quotable (decimal ev.0) (rest_of (first + n) x) in
+    let all : Quotable string = quotables (decimal ev.0, of_part (decimal ev.0) (of_word (decimal ev.0) (number ev.0))) (rest_of (first + n) x) in (
+      string,
+      ap (λ (bs : List ℕ). bs ++ codes "\"") (apart (line_lead n) (decimal ev.0) (rest_of (first + n) x)),
+      all_from quotable IsQuotable quotable_means string all,
+    )
 
--- DATA
+pub strings : StringsAreQuotable
+strings = (
+  event_string,
+  λ c. all_from quotable IsQuotable quotable_means (change_text c) (change_quotable c),
+  λ ts. all_from quotable IsQuotable quotable_means (tokens_text ts) (tokens_quotable ts),
+)
+
+-- and all of it, with the quotation marks
 inerts : (first : Passing inert) (pieces : List (Passing inert)) → Inert (joined inert first.0 pieces)
 inerts = join_all inert
 
-num : (n : ℕ) → Inert (decimal n)
-num n = lift quotable inert quotable_inert (decimal n) (number n)
-
-wrd : (w : Word) → Inert (word_text w)
-wrd w = lift quotable inert quotable_inert (word_text w) (word_quotable w)
-
-ltr : (p : Port) → Inert (port_letter p)
-ltr p = lift quotable inert quotable_inert (port_letter p) (port_quotable p)
+of : (xs : List ℕ) → Quotable xs → Inert xs
+of xs q = lift quotable inert quotable_inert xs q
 
 number_inert : (tag : List ℕ) (n : ℕ) → Inert tag → Inert (number_text tag n)
-number_inert tag n t = inerts (tag, t) ((decimal n, num n) ∷ [])
-
-last_number_inert : (tag : List ℕ) (n : ℕ) → Inert tag → Inert (last_number_text tag n)
-last_number_inert tag n t = inerts (tag, t) ((decimal n, num n) ∷ (codes "]", refl) ∷ [])
-
-last_word_inert : (tag : List ℕ) (w : Word) → Inert tag → Inert (last_word_text tag w)
-last_word_inert tag w t = inerts (tag, t) ((word_text w, wrd w) ∷ (codes "\"]", refl) ∷ [])
-
-number_word_inert : (tag : List ℕ) (n : ℕ) (w : Word) → Inert tag → Inert (number_word_text tag n w)
-number_word_inert tag n w t = inerts (number_text tag n, number_inert tag n t) ((last_word_text (codes ",\"") w, last_word_inert (codes ",\"") w refl) ∷ [])
-
-numbers_inert : (tag : List ℕ) (n m : ℕ) → Inert tag → Inert (numbers_text tag n m)
-numbers_inert tag n m t = inerts (number_text tag n, number_inert tag n t) ((number_text (codes ",") m, number_inert (codes ",") m refl) ∷ [])
-
-token_inert : (t : To) (w : Word) → Inert (token_text t w)
-token_inert (To.Instr f ip port) w = inerts (numbers_text (codes "[\"i\",") f ip, numbers_inert (codes "[\"i\",") f ip refl)
-    ((codes ",\"" ++ port_letter port, ltr port) ∷ (last_word_text (codes "\",\"") w, last_word_inert (codes "\",\"") w refl) ∷ [])
-token_inert (To.Fetch x) w = number_word_inert (codes "[\"r\",") x w refl
-token_inert (To.Store x v) w = inerts (number_text (codes "[\"w\",") x, number_inert (codes "[\"w\",") x refl)
-    ((codes ",\"", refl) ∷ (word_text (Word.Val v), wrd (Word.Val v)) ∷ (last_word_text (codes "\",\"") w, last_word_inert (codes "\",\"") w refl) ∷ [])
-token_inert To.Manager w = last_word_inert (codes "[\"q\",\"") w refl
-token_inert (To.Release f) w = last_number_inert (codes "[\"b\",") f refl
-token_inert (To.Host j) w = number_word_inert (codes "[\"h\",") j w refl
-
-comma_inert : (n : ℕ) → Inert (comma n)
-comma_inert zero = refl
-comma_inert (suc n) = refl
-
-tokens_inert : (ts : List Token) → Inert (tokens_text ts)
-tokens_inert ts = all_numbered inert listed_token (λ n t. inerts (comma n, comma_inert n) ((token_text t.to t.word, token_inert t.to t.word) ∷ [])) 0 ts
-
-state_inert : (s : SlotState) → Inert (state_text s)
-state_inert SlotState.Empty = refl
-state_inert (SlotState.Left w) = last_word_inert (codes "[\"l\",\"") w refl
-state_inert (SlotState.Right w) = last_word_inert (codes "[\"r\",\"") w refl
-state_inert (SlotState.Credits n) = last_number_inert (codes "[\"c\",") n refl
-state_inert (SlotState.Waiter c) = last_word_inert (codes "[\"w\",\"") (Word.Back c) refl
-state_inert (SlotState.Draining n) = last_number_inert (codes "[\"d\",") n refl
-
-change_inert : (c : Change) → Inert (change_text c)
-change_inert Change.Nothing = refl
-change_inert (Change.Slot f r v) = inerts (numbers_text (codes "[\"s\",") f r, numbers_inert (codes "[\"s\",") f r refl)
-    ((codes ",", refl) ∷ (state_text v, state_inert v) ∷ (codes "]", refl) ∷ [])
-change_inert (Change.Reader x c) = number_word_inert (codes "[\"+\",") x (Word.Back c) refl
-change_inert (Change.Filled x v) = number_word_inert (codes "[\"v\",") x (Word.Val v) refl
-change_inert (Change.Out f) = last_number_inert (codes "[\"o\",") f refl
-change_inert (Change.Free f) = last_number_inert (codes "[\"f\",") f refl
-change_inert (Change.Queued c) = last_word_inert (codes "[\"q\",\"") (Word.Back c) refl
-change_inert (Change.Handed f) = last_number_inert (codes "[\"h\",") f refl
-change_inert (Change.Output j v) = number_word_inert (codes "[\"p\",") j (Word.Val v) refl
-change_inert (Change.Done j w) = number_word_inert (codes "[\"p\",") j w refl
+number_inert tag n t = inerts (tag, t) ((decimal n, of (decimal n) (of_part (decimal n) (of_word (decimal n) (number n)))) ∷ [])
 
 lead_inert : (n : ℕ) → Inert (line_lead n)
 lead_inert zero = refl
 lead_inert (suc n) = refl
 
-deed_inert : (d : Deed) → Inert (deed_text d)
-deed_inert Deed.Waited = refl
-deed_inert Deed.Fired = refl
-deed_inert Deed.Answered = refl
-deed_inert Deed.Deferred = refl
-deed_inert Deed.Stored = refl
-deed_inert Deed.Served = refl
-deed_inert Deed.Given = refl
-deed_inert Deed.Queued = refl
-deed_inert Deed.Freed = refl
-deed_inert Deed.HandedOn = refl
-deed_inert Deed.Arrived = refl
+comma_inert : (n : ℕ) → Inert (comma n)
+comma_inert zero = refl
+comma_inert (suc n) = refl
 
-head_inert : (n e k : ℕ) (d : Deed) → Inert (event_head n e k d)
-head_inert n e k d =
-    let lead : Inert (line_lead n ++ number_text (codes "[") e) =
-    inerts (line_lead n, lead_inert n) ((number_text (codes "[") e, number_inert (codes "[") e refl) ∷ []) in
-    inerts (line_lead n ++ number_text (codes "[") e, lead)
-    ((number_text (codes ",") k, number_inert (codes ",") k refl) ∷ (codes ",\"" ++ deed_text d, deed_inert d) ∷ [])
-
-event_inert : (n : ℕ) (ev : ℕ × Token) (x : EntryView) → Inert (event_text n ev x)
-event_inert n ev x = inerts (event_head n ev.0 x.number x.deed, head_inert n ev.0 x.number x.deed)
-    ((codes "\",", refl) ∷ (change_text x.change, change_inert x.change) ∷ (codes ",[", refl) ∷ (tokens_text x.made, tokens_inert x.made) ∷
-    (codes "]]", refl) ∷ [])
+event_inert : (first n : ℕ) (ev : ℕ × Token) (x : EntryView) → Inert (event_text first n ev x)
+event_inert first n ev x =
+    let taken : List ℕ = beyond_text (deed_letter x.deed) x.number (first + n) in
+    let head : Inert (event_head first n ev.0 x.number x.deed) = inerts (number_text (line_lead n) ev.0, number_inert (line_lead n) ev.0 (lead_inert n))
+    ((taken, of taken (of_part taken (beyond_part x.deed x.number (first + n)))) ∷ []) in
+    inerts (event_head first n ev.0 x.number x.deed, head) ((codes ";", refl) ∷ (change_text x.change, of (change_text x.change) (change_quotable x.change)) ∷
+    (codes ";", refl) ∷ (tokens_text x.made, of (tokens_text x.made) (tokens_quotable x.made)) ∷ (codes "\"", refl) ∷ [])
 
 changes_inert : (cs : List Change) → Inert (changes_text cs)
-changes_inert cs = all_numbered inert listed_change (λ n c. inerts (line_lead n, lead_inert n) ((change_text c, change_inert c) ∷ [])) 0 cs
+changes_inert cs = all_numbered inert listed_change (λ n c. inerts (line_lead n, lead_inert n)
+    ((change_text c, of (change_text c) (change_quotable c)) ∷ (codes "\"", refl) ∷ [])) 0 cs
 
 listed_inert : (ns : List ℕ) → Inert (listed_numbers ns)
 listed_inert ns = all_numbered inert listed_number (λ n k. number_inert (comma n) k (comma_inert n)) 0 ns
 
 size_inert : (elements frames first : ℕ) → Inert (size_text elements frames first)
 size_inert elements frames first =
-    inerts (number_text (codes "{\"format\":1,\"elements\":") elements, number_inert (codes "{\"format\":1,\"elements\":") elements refl)
+    inerts (number_text (codes "{\"format\":2,\"elements\":") elements, number_inert (codes "{\"format\":2,\"elements\":") elements refl)
     ((number_text (codes ",\"frames\":") frames, number_inert (codes ",\"frames\":") frames refl) ∷
     (number_text (codes ",\"first\":") first, number_inert (codes ",\"first\":") first refl) ∷ [])
 
@@ -200,13 +263,13 @@ before_inert b = inerts (codes ",\"out\":[0],\"changes\":[", refl) ((changes_tex
     (number_text (codes "],\"next\":") b.next, number_inert (codes "],\"next\":") b.next refl) ∷ [])
 
 start_inert : (b : BooksView) → Inert (start_text b)
-start_inert b = inerts (codes ",\"numbers\":[", refl) ((listed_numbers b.numbers, listed_inert b.numbers) ∷ (codes "],\"start\":[", refl) ∷
-    (tokens_text b.tokens, tokens_inert b.tokens) ∷ [])
+start_inert b = inerts (codes ",\"numbers\":[", refl) ((listed_numbers b.numbers, listed_inert b.numbers) ∷ (codes "],\"start\":\"", refl) ∷
+    (tokens_text b.tokens, of (tokens_text b.tokens) (tokens_quotable b.tokens)) ∷ [])
 
 all_inert : (elements frames first : ℕ) (events : Events) (b : BooksView) → Inert (data_text elements frames first events b)
 all_inert elements frames first events b = inerts (size_text elements frames first, size_inert elements frames first)
-    ((before_text b, before_inert b) ∷ (start_text b, start_inert b) ∷ (codes "],\"events\":[", refl) ∷
-    (paired event_text 0 events b.entries, all_paired inert event_text event_inert 0 events b.entries) ∷ (codes "\n]}", refl) ∷ [])
+    ((before_text b, before_inert b) ∷ (start_text b, start_inert b) ∷ (codes "\",\"events\":[", refl) ∷
+    (paired (event_text first) 0 events b.entries, all_paired inert (event_text first) (event_inert first) 0 events b.entries) ∷ (codes "\n]}", refl) ∷ [])
 
 pub data_inert : DataIsInert
 data_inert elements frames first events books = all_from inert IsInert inert_means (data_text elements frames first events books)
@@ -217,10 +280,10 @@ pub plains : (first : Passing plain) (pieces : List (Passing plain)) → Plain (
 plains = join_all plain
 
 pub dec : (n : ℕ) → Plain (decimal n)
-dec n = lift quotable plain quotable_plain (decimal n) (number n)
+dec n = lift in_word plain word_plain (decimal n) (number n)
 
 pub int : (z : ℤ) → Plain (literal z)
-int z = lift quotable plain quotable_plain (literal z) (integer z)
+int z = lift in_word plain word_plain (literal z) (integer z)
 
 pub ended : (xs : List ℕ) → Plain xs → Plain (line xs)
 ended xs a = plains (xs, a) ((10 ∷ [], refl) ∷ [])

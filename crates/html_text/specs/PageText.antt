@@ -16,7 +16,7 @@ part_text Script = MODEL.now ++ PICTURE.now ++ LISTS.now
 
 -- a page of more than 200,000 events ends with a mark
 abbrev pub large_mark : ℕ → List ℕ
-large_mark events = if nat_lt 200000 events then codes "<!-- large -->\n" else []
+large_mark events = if nat_lt 1000000 events then codes "<!-- large -->\n" else []
 
 -- the page with the text of the graph and its inputs, the listing of its code, the report of the run, and the run's data with so many events
 abbrev pub html_text : List ℕ → List ℕ → List ℕ → List ℕ → ℕ → List ℕ

@@ -1,14 +1,17 @@
 -- The texts in a page need no escape.
-use Rattle.std.specs.Prelude.{◌≡◌, ℕ, ◌≤◌, ◌==◌, ◌||◌, Bool, false, All, List}
+use Rattle.std.specs.Prelude.{◌≡◌, ℕ, ◌≤◌, ◌==◌, ◌||◌, Bool, false, All, List, ◌++◌, codes, decimal}
 use Rattle.tags.specs.declared.token.Word.{Word}
+use Rattle.tags.specs.declared.token.Token.{Token}
 use Rattle.semantics.specs.Graph.{Graph}
 use Rattle.semantics.specs.Program.{Program}
 use Rattle.semantics.specs.Machine.{Events}
 use Rattle.semantics.specs.Text.{IsText}
 use Rattle.disassembler.specs.Listing.{listing}
 use Rattle.trace_text.specs.TraceText.{word_text}
-use Rattle.replay.specs.Views.{BooksView}
-use Rattle.html_text.specs.DataText.{data_text}
+use Rattle.replay.specs.declared.moment.Deed.{Deed}
+use Rattle.replay.specs.declared.entry.Change.{Change}
+use Rattle.replay.specs.Views.{EntryView, BooksView}
+use Rattle.html_text.specs.DataText.{beyond_text, deed_letter, change_text, token_text, tokens_text, line_lead, event_text, data_text}
 
 -- one of < > & ' ` and \, by which a text in a page could end, or something else begin
 abbrev pub is_markup : ℕ → Bool
@@ -30,9 +33,27 @@ IsInert c = is_markup c ≡ false
 abbrev pub IsQuotable : ℕ → Type 0
 IsQuotable c = (32 ≤ c) × IsPlain c
 
--- THE LAWS
-abbrev pub WordsAreQuotable : Type 0
-WordsAreQuotable = (w : Word) → All IsQuotable (word_text w)
+-- it is so, and no semicolon, which is between the parts of a string of the data
+abbrev pub IsInPart : ℕ → Type 0
+IsInPart c = IsQuotable c × ((c == 59) ≡ false)
+
+-- it is so, and no colon, which is before a word
+abbrev pub IsInWord : ℕ → Type 0
+IsInWord c = IsInPart c × ((c == 58) ≡ false)
+
+-- THE LAWS. A word begins after a colon, and goes on to the next colon or semicolon, or to the end of the string.
+abbrev pub WordsAreWhole : Type 0
+WordsAreWhole = (w : Word) → All IsInWord (word_text w)
+
+-- So is a part of a string: what an event did, what it changed, and each token.
+abbrev pub PartsAreWhole : Type 0
+PartsAreWhole = ((e : ℕ) (d : Deed) (number event : ℕ) → All IsInPart (decimal e ++ beyond_text (deed_letter d) number event))
+    × ((c : Change) → All IsInPart (change_text c)) × ((t : Token) → All IsInPart (token_text t.to t.word))
+
+-- The strings of the data: of an event its parts, with semicolons between them; a change; the tokens of the start.
+abbrev pub StringsAreQuotable : Type 0
+StringsAreQuotable = ((first n : ℕ) (ev : ℕ × Token) (x : EntryView) → (string : List ℕ) × (event_text first n ev x ≡ line_lead n ++ string ++ codes "\"")
+    × All IsQuotable string) × ((c : Change) → All IsQuotable (change_text c)) × ((ts : List Token) → All IsQuotable (tokens_text ts))
 
 abbrev pub DataIsInert : Type 0
 DataIsInert = (elements frames first : ℕ) (events : Events) (books : BooksView) → All IsInert (data_text elements frames first events books)

@@ -1,77 +1,96 @@
 //! The data of a run.
 
 ghost use Rattle.std.specs.Prelude.{◌≡◌};
-ghost use Rattle.html_text.specs.DataText.{line_lead, event_head, event_text, listed_change, changes_text, listed_number, listed_numbers, size_text};
+ghost use Rattle.html_text.specs.DataText.{line_lead, deed_letter, event_head, event_text, listed_change, changes_text, comma, listed_number, listed_numbers, size_text};
 ghost use Rattle.html_text.specs.DataText.{before_text, start_text, data_text};
 ghost use Rattle.trace_text.specs.TraceText.{paired};
 ghost use Rattle.sink.specs.Sends.{Sends};
 
 use crate::changes::send_change;
-use crate::pieces::{send_long, send_number};
-use crate::tokens::{comma, send_tokens};
+use crate::pieces::{send_beyond, send_long, send_number};
+use crate::tokens::send_tokens;
 use replay::{Books, Change, Deed, Entry};
-use sink::{send, send_all};
+use sink::send;
 use std::alloc::Allocator;
 use std::io::{self, Write};
 use tags::token::Token;
-use trace_text::deed_word;
 
 /// What is before the event of this number.
 fn line_lead(place: usize) -> &'static [u8]
     ensures { result.now ≡ line_lead place }
 {
     match place {
-        0 => b"\n",
-        _ => b",\n",
+        0 => b"\n\"",
+        _ => b",\n\"",
     }
 }
 
-/// The element, the number of the token taken, and the deed.
+/// The letter of a deed.
+fn deed_letter(deed: Deed) -> &'static [u8]
+    ensures { result.now ≡ deed_letter deed }
+{
+    match deed {
+        Deed::Waited => b"w",
+        Deed::Fired => b"f",
+        Deed::Answered => b"a",
+        Deed::Deferred => b"d",
+        Deed::Stored => b"s",
+        Deed::Served => b"v",
+        Deed::Given => b"g",
+        Deed::Queued => b"q",
+        Deed::Freed => b"b",
+        Deed::HandedOn => b"h",
+        Deed::Arrived => b"o",
+    }
+}
+
+/// The element, the deed, and the token taken.
 fn send_head<W: Write>(
     writer: &mut W,
+    first: u64,
     place: usize,
     element: u32,
     number: u64,
     deed: Deed,
 ) -> io::Result<()>
-    ensures { Sends result (W.contents writer.old) (W.contents writer.new) (event_head place element number deed) }
+    ensures { Sends result (W.contents writer.old) (W.contents writer.new) (event_head first place element number deed) }
 {
-    send(writer, line_lead(place))?;
-    send_number(writer, b"[", element)?;
-    send_long(writer, b",", number)?;
-    send_all(writer, &[b",\"", deed_word(deed)])
+    send_number(writer, line_lead(place), element)?;
+    send_beyond(writer, deed_letter(deed), number, first, place)
 }
 
 /// An event.
 fn send_event<A: Allocator, W: Write>(
     writer: &mut W,
+    first: u64,
     place: usize,
     event: &(u32, Token),
     entry: &Entry<A>,
 ) -> io::Result<()>
-    ensures { Sends result (W.contents writer.old) (W.contents writer.new) (event_text place event.now entry.now) }
+    ensures { Sends result (W.contents writer.old) (W.contents writer.new) (event_text first place event.now entry.now) }
 {
-    send_head(writer, place, event.0, entry.number, entry.deed)?;
-    send(writer, b"\",")?;
+    send_head(writer, first, place, event.0, entry.number, entry.deed)?;
+    send(writer, b";")?;
     send_change(writer, entry.change)?;
-    send(writer, b",[")?;
+    send(writer, b";")?;
     send_tokens(writer, &entry.made)?;
-    send(writer, b"]]")
+    send(writer, b"\"")
 }
 
 /// All events.
 fn send_events<A: Allocator, W: Write>(
     writer: &mut W,
+    first: u64,
     events: &[(u32, Token)],
     entries: &[Entry<A>],
 ) -> io::Result<()>
-    ensures { Sends result (W.contents writer.old) (W.contents writer.new) (paired event_text 0 events.now entries.now) }
+    ensures { Sends result (W.contents writer.old) (W.contents writer.new) (paired (event_text first) 0 events.now entries.now) }
 {
     for (place, event) in events.iter().enumerate() {
         let Some(entry) = entries.get(place) else {
             return Ok(());
         };
-        send_event(writer, place, event, entry)?;
+        send_event(writer, first, place, event, entry)?;
     }
     Ok(())
 }
@@ -81,7 +100,8 @@ fn send_listed_change<W: Write>(writer: &mut W, place: usize, change: Change) ->
     ensures { Sends result (W.contents writer.old) (W.contents writer.new) (listed_change place change) }
 {
     send(writer, line_lead(place))?;
-    send_change(writer, change)
+    send_change(writer, change)?;
+    send(writer, b"\"")
 }
 
 /// The changes of the earlier events.
@@ -92,6 +112,16 @@ fn send_changes<W: Write>(writer: &mut W, changes: &[Change]) -> io::Result<()>
         send_listed_change(writer, place, changes[place])?;
     }
     Ok(())
+}
+
+/// What is before a number of a list.
+fn comma(place: usize) -> &'static [u8]
+    ensures { result.now ≡ comma place }
+{
+    match place {
+        0 => b"",
+        _ => b",",
+    }
 }
 
 /// A number in a list.
@@ -115,7 +145,7 @@ fn send_numbers<W: Write>(writer: &mut W, numbers: &[u64]) -> io::Result<()>
 fn send_size<W: Write>(writer: &mut W, elements: u32, frames: u32, first: u64) -> io::Result<()>
     ensures { Sends result (W.contents writer.old) (W.contents writer.new) (size_text elements frames first) }
 {
-    send_number(writer, b"{\"format\":1,\"elements\":", elements)?;
+    send_number(writer, b"{\"format\":2,\"elements\":", elements)?;
     send_number(writer, b",\"frames\":", frames)?;
     send_long(writer, b",\"first\":", first)
 }
@@ -135,12 +165,12 @@ fn send_start<A: Allocator, W: Write>(writer: &mut W, books: &Books<A>) -> io::R
 {
     send(writer, b",\"numbers\":[")?;
     send_numbers(writer, &books.numbers)?;
-    send(writer, b"],\"start\":[")?;
+    send(writer, b"],\"start\":\"")?;
     send_tokens(writer, &books.tokens)
 }
 
 /// Writes the data of a run on so many elements, which have so many frames in all, from event number `first` on: one JSON object with what
-/// there is before that event, and with an entry for each event, each on a line. `books` are the books of these events: their entries go in
+/// there is before that event, and with an entry for each event, each on a line, packed into a string. `books` are the books of these events: their entries go in
 /// pairs with the events, and the shorter list ends it. The writer is called until it has taken all of it; a call that takes no byte is a fault.
 /// After an `Err` a beginning of the text was written. Takes no memory.
 pub fn write_data<A: Allocator, W: Write>(
@@ -156,7 +186,7 @@ pub fn write_data<A: Allocator, W: Write>(
     send_size(writer, elements, frames, first)?;
     send_before(writer, books)?;
     send_start(writer, books)?;
-    send(writer, b"],\"events\":[")?;
-    send_events(writer, events, &books.entries)?;
+    send(writer, b"\",\"events\":[")?;
+    send_events(writer, first, events, &books.entries)?;
     send(writer, b"\n]}")
 }

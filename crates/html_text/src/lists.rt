@@ -54,12 +54,14 @@ function something(w) {  // what these words name
   if (m && m[1] === 'output') return {name: w, has: n => TYPE[TAKES[n]] === HOST && TO[TAKES[n]] === k};
   if (/^\d+\.\d+$/.test(w)) return BLOCKS[m[1]] && BLOCKS[m[1]].code[k] ? ofInstruction(BLOCKS[m[1]].first + k) : null;
   if (HELP[w] || CODE.some(i => i.name === w)) return {name: w, has: n => ipOf(n) >= 0 && name(ipOf(n)) === w};
-  return /^-?\d+$/.test(w) ? {name: 'the value ' + w, text: '"' + w + '"'} : /^fault/.test(w) ? {name: w, text: '"' + w} : null;
+  return /^-?\d+$/.test(w) ? {name: 'the value ' + w, text: ':' + w} : /^fault/.test(w) ? {name: w, text: ':' + w, open: true} : null;
 }
 function seek(of, n, by) {  // the first event of it from event n on, upwards or downwards; -1 where there is none
   if (n < 0 || n >= N) return -1;
   if (!of.text) { while (n >= 0 && n < N && !of.has(n)) n += by; return n < N ? n : -1; }
-  const k = by > 0 ? TEXT.indexOf(of.text, LINE[K + n]) : TEXT.lastIndexOf(of.text, LINE[K + n + 1] - 1);
+  let k = by > 0 ? LINE[K + n] : LINE[K + n + 1] - 4;
+  do k = by > 0 ? TEXT.indexOf(of.text, k + 1) : k > 0 ? TEXT.lastIndexOf(of.text, k - 1) : -1;
+  while (k >= 0 && !of.open && !/[;:"]/.test(TEXT[k + of.text.length]));
   let a = 0, b = N - 1;
   while (a < b) { const m = (a + b + 1) >> 1; if (LINE[K + m] <= k) a = m; else b = m - 1; }
   return k < LINE[K] ? -1 : a;
@@ -95,7 +97,7 @@ function nextOf(n, by) { n += by; while (n >= 0 && n < N && isQuiet(n)) n += by;
 function step(by) { pause(); go(nextOf(pos, by)); }
 function doing(n) { const t = takenBy(n); return t[0] === 'i' ? name(t[2]) + ' (' + at(t[2]) + '), frame ' + t[1] : whereTo(t, -1); }
 function lists(n, s, pool, f) {
-  const c = n < 0 ? null : eventOf(n)[3], t0 = n < 0 ? -1 : TAKES[n], hit = k => c && c[0] === 's' && skey(c[1], c[2]) === k;
+  const c = n < 0 ? null : changeOf(K + n), t0 = n < 0 ? -1 : TAKES[n], hit = k => c && c[0] === 's' && skey(c[1], c[2]) === k;
   const asked = (c, text) => c < K ? el('span', {class: 'chip wait'}, text) : tokButton(TAKES[c - K], 'wait', text);
   const outs = [];
   for (let p = 0; p <= BLOCKS[MAIN].outs; p++) {
@@ -188,7 +190,64 @@ function around(n, count) {  // so many events around this one, without those th
   while (first > 0 && list.length < count) if (isShown(--first)) list.unshift(first);
   return list;
 }
+// The waves: with elements without number each event would happen in the wave after those of the events that it needs. A bar for each wave, as high as it
+// has events, by function; neighbours share one where there are too many, as high as the greatest of them.
+const wv = $('wv'), HW = 62, WAVES = WAVE.reduce((a, b) => Math.max(a, b), 0), SIZE = new Int32Array(WAVES + 1), BEGIN = new Int32Array(WAVES + 1);
+for (let m = N - 1; m >= 0; m--) { SIZE[WAVE[m]]++; BEGIN[WAVE[m]] = m; }
+const HIGH = SIZE.reduce((a, b) => Math.max(a, b), 0), HUES = 7, codeOf = m => CODE[ipOf(m)];
+const SHARES = BLOCKS.map(b => ({b: b, events: 0, hue: HUES}));  // of each function its events, and its colour: the last is of all others
+for (let m = 0; m < N; m++) if (codeOf(m)) SHARES[codeOf(m).b].events++;
+const inRun = SHARES.filter(s => s.events).sort((p, q) => q.events - p.events);
+inRun.forEach((s, k) => { s.hue = Math.min(k, HUES); });
+const hue = k => k > HUES ? 'hsl(0 0% 55%)' : k === HUES ? 'hsl(60 15% 45%)' : 'hsl(' + (215 + 137 * k) % 360 + ' 55% 52%)';
+const hueOf = m => codeOf(m) ? SHARES[codeOf(m).b].hue : HUES + 1, swatch = k => el('i', {style: 'background:' + hue(k)});
+fill($('wlegend'), el('span', {}, many(WAVES, 'wave') + (N ? ', at most ' + many(HIGH, 'event') + ' in one' : '')),
+    inRun.slice(0, HUES).map((s, k) => el('span', {}, swatch(k), bname(s.b))), inRun.length > HUES ? el('span', {}, swatch(HUES), 'other functions') : '',
+    inRun.reduce((n, s) => n - s.events, N) ? el('span', {}, swatch(HUES + 1), 'cells, frames and the host') : '');
+let waveBack = null, waveKey = '';
+function drawWaves(W, dpr, soft) {
+  const IW = W - PADL - 4, cols = Math.min(Math.floor(IW), WAVES), c = waveBack.getContext('2d'), bar = IW / cols, top = new Int32Array(WAVES + 1).fill(-1);
+  c.scale(dpr, dpr); c.fillStyle = soft; c.fillRect(PADL, 0, IW, HW);
+  for (let x = 0; x < cols; x++) {  // the greatest wave of each column
+    let best = 0;
+    for (let w = Math.floor(x * WAVES / cols) + 1; w <= Math.floor((x + 1) * WAVES / cols); w++) if (SIZE[w] > SIZE[best]) best = w;
+    top[best] = x;
+  }
+  const per = new Int32Array(cols * (HUES + 2));
+  for (let m = 0; m < N; m++) if (top[WAVE[m]] >= 0) per[top[WAVE[m]] * (HUES + 2) + hueOf(m)]++;
+  for (let x = 0; x < cols; x++) for (let k = 0, y = HW; k < HUES + 2; k++) {
+    const h = per[x * (HUES + 2) + k] * (HW - 3) / HIGH;
+    if (h) { y -= h; c.fillStyle = hue(k); c.fillRect(PADL + x * bar, y, bar > 3 ? bar - 1 : bar, h); }
+  }
+}
+function waves(n) {
+  const dpr = devicePixelRatio || 1, W = tlw, css = getComputedStyle(document.documentElement), soft = css.getPropertyValue('--soft').trim();
+  wv.hidden = !WAVES;
+  if (!WAVES || W < 50) return;
+  if (waveKey !== W + '/' + dpr + '/' + soft) {
+    waveKey = W + '/' + dpr + '/' + soft; wv.style.height = HW + 'px';
+    waveBack = document.createElement('canvas'); waveBack.width = wv.width = Math.round(W * dpr); waveBack.height = wv.height = Math.round(HW * dpr);
+    drawWaves(W, dpr, soft);
+  }
+  const c = wv.getContext('2d'), w = n < 0 ? 0 : WAVE[n], IW = W - PADL - 4;
+  c.setTransform(1, 0, 0, 1, 0, 0); c.clearRect(0, 0, wv.width, wv.height); c.drawImage(waveBack, 0, 0); c.scale(dpr, dpr);
+  c.fillStyle = css.getPropertyValue('--defer').trim(); c.fillRect(PADL + Math.max(0, w - .5) * IW / WAVES - 1, 0, 2, HW);
+  wv.setAttribute('aria-valuemax', WAVES); wv.setAttribute('aria-valuenow', w);
+  wv.setAttribute('aria-valuetext', w ? 'wave ' + w + ' of ' + WAVES + ': ' + many(SIZE[w], 'event') : 'start');
+}
+function goWave(w) { pause(); go(w < 1 ? -1 : BEGIN[Math.min(w, WAVES)]); }  // to the first event of a wave
+wv.addEventListener('pointerdown', ev => {
+  const r = wv.getBoundingClientRect();
+  goWave(1 + Math.max(0, Math.floor((ev.clientX - r.left - PADL) * WAVES / (r.width - PADL - 4))));
+});
+wv.addEventListener('keydown', ev => {
+  const by = ev.key === 'ArrowLeft' ? -1 : ev.key === 'ArrowRight' ? 1 : 0;
+  if (!by || ev.ctrlKey || ev.metaKey || ev.altKey) return;
+  ev.preventDefault(); ev.stopPropagation();
+  goWave((pos < 0 ? 0 : WAVE[pos]) + by);
+});
 function timeline(n) {
+  waves(n);
   const dpr = devicePixelRatio || 1, W = tlw, css = getComputedStyle(document.documentElement), seen = {},
     col = k => seen[k] || (seen[k] = css.getPropertyValue('--' + k).trim());
   if (W < 50) return;

@@ -20,11 +20,24 @@ const many = (n, one, more) => (n ? n.toLocaleString('en') : 'no') + ' ' + (n ==
 function fail(m) { $('app').hidden = false; $('bad').hidden = false; $('bad').append(m + ' '); }
 
 // ---- the static part stands as text in the page
-// The events stay text, each on a line, and are read as objects only where they are shown.
+// The events stay text, each a packed string on a line, and are unpacked only where they are shown.
 const TEXT = $('data').textContent, HEAD = TEXT.indexOf('"changes":[') + 11, AFTER = TEXT.indexOf('],"next":', HEAD),
     BODY = TEXT.indexOf('"events":[', AFTER) + 10;
+const UNITS = /^(\D)(\d*),?(\d*)(.*)$/;  // a letter, up to two numbers, and the rest: words behind colons, or the state of a slot
+function unpackToken(s) {
+  const [, tag, a, b, rest] = UNITS.exec(s), w = rest.split(':').slice(1);
+  return tag === 'l' || tag === 'r' ? ['i', +a, +b, tag, w[0]] : tag === 'q' ? ['q', w[0]] : [tag, +a, ...w];
+}
+const unpackTokens = list => list.filter(t => t).map(unpackToken);
+const unpackState = s => !s ? null : s[1] === ':' ? [s[0], s.slice(2)] : [s[0], +s.slice(1)];
+function unpackChange(s) {
+  if (!s) return null;
+  const [, tag, a, b, rest] = UNITS.exec(s);
+  return tag === 's' ? ['s', +a, +b, unpackState(rest)] : tag === 'q' ? ['q', rest.slice(1)] : [tag, +a, ...rest.split(':').slice(1)];
+}
 let D;
 try { D = JSON.parse(TEXT.slice(0, HEAD) + TEXT.slice(AFTER, BODY) + ']}'); } catch (x) { fail('The data cannot be read: ' + x.message); return; }
+D.start = unpackTokens(D.start.split(';'));
 const CODE = [], BLOCKS = [], ARRAYS = [];
 let MAIN = 0, CELLS = 0;
 for (const line of $('listing').textContent.split('\n')) {
@@ -71,31 +84,32 @@ const HELP = {sync: 'Waits for both tokens, then sends a signal (0).', switch: '
 let BYTES = new TextEncoder().encode(TEXT), here = HEAD, made = 0;
 function lines(from, to) { let k = 0; for (let i = from; i < to; i++) if (BYTES[i] === 10) k++; return k; }
 const E = D.elements, K = lines(HEAD, AFTER), N = lines(BODY, BYTES.length) - 1, START = D.start.length, no = n => D.first + n;
-const LINE = new Int32Array(K + N + 1);  // where in the text a change or an event begins
+const LINE = new Int32Array(K + N + 1);  // where in the text the string of a change or an event begins
 const TAG = new Uint8Array(K + N), PLACE = new Int32Array(K + N), WAS = new Int32Array(K + N), HOLDS = new Uint8Array(K + N);
 // of a change: its letter, what it changes, the change of that before, and the letter of the state that a slot has then
 const ELEMENT = new Uint16Array(N), TAKES = new Int32Array(N), KIND = new Uint8Array(N), FIRST = new Int32Array(N + 2);
 let TYPE = new Uint8Array(START + 2 * N + 64), TO = new Int32Array(TYPE.length), IP = new Int32Array(TYPE.length), MADE = new Int32Array(TYPE.length),
     TAKEN = new Int32Array(TYPE.length);
-const letter = s => s.charCodeAt(0), INSTR = letter('i'), READ = letter('r'), WRITE = letter('w'), BACK = letter('b'), HOST = letter('h');
-const SLOT = letter('s'), EMPTIED = letter('e'), FILLED = letter('v'), READER = letter('+'), OUT = letter('o'), FREED = letter('f'),
-    QUEUED = letter('q'), HANDED = letter('h'), OUTPUT = letter('p'), CREDITS = letter('c'), ASKS = letter('w'), NONE = -2;
-const KINDS = ['fired', 'waited', 'memory', 'defer', 'manager', 'host'], KIND_OF = new Uint8Array(65536);
-['fi', 'wa', 'an st se', 'de qu', 'gi fr ha', 'ar'].forEach((list, k) => {  // by the first two letters of the deed
-  for (const w of list.split(' ')) KIND_OF[letter(w) * 256 + w.charCodeAt(1)] = k;
-});
+const letter = s => s.charCodeAt(0), INSTR = letter('i'), READ = letter('f'), WRITE = letter('s'), BACK = letter('b'), HOST = letter('h');
+const LEFT = letter('l'), RIGHT = letter('r'), SLOT = letter('s'), EMPTIED = letter('e'), FILLED = letter('v'), READER = letter('+'), OUT = letter('o'), FREED = letter('f'),
+    QUEUED = letter('q'), HANDED = letter('h'), OUTPUT = letter('p'), CREDITS = letter('c'), ASKS = letter('w'), NONE = -2,
+    NEXT = letter(';'), QUOTE = letter('"'), MINUS = letter('-');
+const KINDS = ['fired', 'waited', 'memory', 'defer', 'manager', 'host'], KIND_OF = new Uint8Array(128);
+['f', 'w', 'asv', 'dq', 'gbh', 'o'].forEach((list, k) => { for (const deed of list) KIND_OF[letter(deed)] = k; });
 function pass(c) { let i = here; while (BYTES[i] !== c && i < BYTES.length) i++; here = i + 1; }
+function toEnd() { let i = here; while (BYTES[i] !== NEXT && BYTES[i] !== QUOTE && i < BYTES.length) i++; here = i; }  // of this part of a string
 function number() { let x = 0, i = here, c = BYTES[i]; while (c > 47 && c < 58) { x = 10 * x + c - 48; c = BYTES[++i]; } here = i; return x; }
+function signed() { if (BYTES[here] !== MINUS) return number(); here++; return -number(); }
+const isEnd = () => BYTES[here] === NEXT || BYTES[here] === QUOTE;
 function readChange(k) {
-  if (BYTES[here] !== 91) { here += 4; return; }
-  let tag = BYTES[here + 2];
-  here += 5;
+  if (isEnd()) return;
+  let tag = BYTES[here++];
   if (tag !== QUEUED) PLACE[k] = number();
   if (tag === SLOT) {
-    here++; PLACE[k] = skey(PLACE[k], number()); here++;
-    if (BYTES[here] !== 91) tag = EMPTIED; else { HOLDS[k] = BYTES[here + 2]; pass(93); }
+    here++; PLACE[k] = skey(PLACE[k], number());
+    if (isEnd()) tag = EMPTIED; else HOLDS[k] = BYTES[here];
   }
-  pass(93);
+  toEnd();
   TAG[k] = tag;
 }
 function grow() {
@@ -111,28 +125,25 @@ function enter(type, to, ip, n) {  // a token that event n makes
   }
 }
 function readTokens(n) {
-  while (BYTES[here] === 91 || BYTES[here] === 44) {
-    if (BYTES[here] === 44) here++;
-    const type = BYTES[here + 2];
-    here += 5;
-    const to = type === QUEUED ? 0 : number();
+  while (BYTES[here] !== QUOTE && here < BYTES.length) {
+    const c = BYTES[here++], type = c === LEFT || c === RIGHT ? INSTR : c, to = type === QUEUED ? 0 : number();
     if (type === INSTR) here++;
     enter(type, to, type === INSTR ? number() : -1, n);
-    pass(93);
+    toEnd();
+    if (BYTES[here] === NEXT) here++;
   }
 }
 function readEvent(n) {
   pass(10);
-  LINE[K + n] = here++;
-  ELEMENT[n] = number(); here++;
-  const k = number(), t = TAKES[n] = k >= D.next ? START + k - D.next : EARLY.get(k);
+  LINE[K + n] = ++here;
+  ELEMENT[n] = number();
+  KIND[n] = KIND_OF[BYTES[here++]];
+  const k = no(n) + signed(), t = TAKES[n] = k >= D.next ? START + k - D.next : EARLY.get(k);
   if (t === undefined || t >= made || TAKEN[t] !== LATER) return false;
-  TAKEN[t] = n; FIRST[n] = made; here += 2;
-  KIND[n] = KIND_OF[BYTES[here] * 256 + BYTES[here + 1]];
-  pass(34); here++;
+  TAKEN[t] = n; FIRST[n] = made; here++;
   readChange(K + n);
   if (HOLDS[K + n] === CREDITS) KIND[n] = 0;
-  here += 2;
+  here++;
   return true;
 }
 
@@ -178,15 +189,27 @@ function restore(from) {
   s.queued = from.queued; s.served = from.served;
   return {n: from.n, s: s};
 }
+const WAVE = new Int32Array(N);
+function waveOf(s, n) {  // of event n, before its change: one more than that of the events that it needs. Those are of the page
+  const c = K + n, t = TAKES[n], tag = TAG[c], read = TYPE[t] === READ ? s.cells.get(TO[t]) : undefined;
+  let w = MADE[t] < 0 ? 0 : WAVE[MADE[t]];
+  const needs = c => { if (c >= K && WAVE[c - K] > w) w = WAVE[c - K]; };
+  if (read !== undefined && TAG[read] === FILLED) needs(read);  // what filled the cell
+  if (tag === SLOT || tag === EMPTIED) { const held = s.slots.get(PLACE[c]); if (held !== undefined) needs(held); }
+  if (tag === FILLED) readersOf(s.cells.has(PLACE[c]) ? s.cells.get(PLACE[c]) : -1).forEach(needs);
+  if (tag === HANDED) needs(REQ[s.served]);
+  return w + 1;
+}
 const EARLY = new Map(D.numbers.map((k, i) => [k, i])), EVERY = 2048;
 let TOP = START, cur = {n: -1, s: fresh()};
 for (const f of D.out) { cur.s.out.set(f, -1); unowned.set(f, -1); }
-for (let c = 0; c < K; c++) { pass(10); LINE[c] = here; readChange(c); note(cur.s, c); }
+for (let c = 0; c < K; c++) { pass(10); LINE[c] = ++here; readChange(c); note(cur.s, c); }
 for (const t of D.start) enter(letter(t[0]), t[0] === 'q' ? 0 : t[1], t[0] === 'i' ? t[2] : -1, -1);
 keep(-1, cur.s);
 here = BODY;
 for (let n = 0; n < N; n++) {
   if (!readEvent(n)) { fail('Event ' + no(n) + ' takes a token that is not there.'); return; }
+  WAVE[n] = waveOf(cur.s, n);
   note(cur.s, K + n);
   readTokens(n);
   if (made - n - 1 > TOP) TOP = made - n - 1;
@@ -194,7 +217,7 @@ for (let n = 0; n < N; n++) {
   if (n - SNAP[SNAP.length - 1].n >= Math.max(EVERY, weight(cur.s))) keep(n, cur.s);
 }
 pass(10);
-LINE[K + N] = here + 1; FIRST[N] = FIRST[N + 1] = made; BYTES = null;
+LINE[K + N] = here + 2; FIRST[N] = FIRST[N + 1] = made; BYTES = null;
 const ALL = made;  // all tokens
 if (!BLOCKS.some(b => b.used)) BLOCKS[MAIN].used = true;  // Main's code is shown where no token is for any
 function stateAt(n) {
@@ -212,12 +235,13 @@ function lineOf(c) {
   let v = SEEN.get(c);
   if (v !== undefined) return v;
   if (SEEN.size > 9999) SEEN.clear();
-  v = JSON.parse(TEXT.slice(LINE[c], c === K - 1 ? AFTER : LINE[c + 1] - 2));
+  const s = TEXT.slice(LINE[c], c === K - 1 ? AFTER - 1 : LINE[c + 1] - 4), [head, change, ...made] = s.split(';');
+  v = c < K ? {change: unpackChange(s)} : {element: parseInt(head, 10), change: unpackChange(change), made: unpackTokens(made)};
   SEEN.set(c, v);
   return v;
 }
-const eventOf = n => lineOf(K + n), changeOf = c => c < K ? lineOf(c) : lineOf(c)[3];
-const tokenOf = t => t < START ? D.start[t] : eventOf(MADE[t])[4][t - FIRST[MADE[t]]], takenBy = n => tokenOf(TAKES[n]);
+const eventOf = n => lineOf(K + n), changeOf = c => lineOf(c).change;
+const tokenOf = t => t < START ? D.start[t] : eventOf(MADE[t]).made[t - FIRST[MADE[t]]], takenBy = n => tokenOf(TAKES[n]);
 const numberOf = t => t < START ? D.numbers[t] : D.next + t - START;
 const born = n => n < 0 ? START : FIRST[n + 1];  // how many tokens there have been after event n
 const ipOf = n => n < 0 ? -1 : IP[TAKES[n]], stateOf = c => c < 0 ? null : changeOf(c)[3];
@@ -250,13 +274,12 @@ function short(w) {
 }
 const brief = (w, m) => { const s = short(w); return s.length > (m || 9) ? s.slice(0, (m || 9) - 4) + '\u2026' + s.slice(-3) : s; };
 function cell(x) { for (const a of ARRAYS) if (x < a.base + a.len) return a.name + '[' + (x - a.base) + ']'; return 'cell ' + x; }
-function carries(t) { return t[0] === 'i' ? t[4] : t[0] === 'w' ? t[2] : t[0] === 'h' ? t[2] : t[0] === 'b' ? 'frame ' + t[1] : t[0] === 'r' ? t[2] :
-    t[1]; }
+const carries = t => t[0] === 'i' ? t[4] : t[0] === 'q' ? t[1] : t[0] === 'b' ? 'frame ' + t[1] : t[2];
 function whereTo(t, f) {
   switch (t[0]) {
     case 'i': return name(t[2]) + ' (' + at(t[2]) + '), ' + SIDE[t[3]] + (t[1] === f ? '' : ', of frame ' + t[1]);
-    case 'r': return 'a read of cell ' + cell(t[1]);
-    case 'w': return 'a write to cell ' + cell(t[1]);
+    case 'f': return 'a read of cell ' + cell(t[1]);
+    case 's': return 'a write to cell ' + cell(t[1]);
     case 'q': return 'a request for a frame';
     case 'b': return 'the frame manager';
     default: return t[1] < BLOCKS[MAIN].outs ? 'the host, as output ' + t[1] : 'the host: all is done';
@@ -264,8 +287,8 @@ function whereTo(t, f) {
 }
 function goes(t, f) {
   switch (t[0]) {
-    case 'r': return 'a read goes to cell ' + cell(t[1]);
-    case 'w': return 'a write of ' + t[2] + ' goes to cell ' + cell(t[1]);
+    case 'f': return 'a read goes to cell ' + cell(t[1]);
+    case 's': return 'a write of ' + t[2] + ' goes to cell ' + cell(t[1]);
     case 'q': return 'a request for a frame goes to the manager';
     case 'b': return 'frame ' + t[1] + ' goes back to the manager';
     case 'h': return t[1] < BLOCKS[MAIN].outs ? word(t[2]) + ' goes to the host as output ' + t[1] : 'the host will be told that all is done';
@@ -289,7 +312,7 @@ function sentence(n) {
   if (n < 0) return ['Before ' + (D.first ? 'event ' + D.first : 'the first event') + ': ', many(START, 'token'), START === 1 ? ' is' : ' are',
       ' on the way: ', D.start.slice(0, 18).map(t => word(carries(t)) + ' to ' + whereTo(t, D.first ? -1 : t[1])).join('; '), START > 18 ?
       '; and ' + (START - 18) + ' more.' : '.'];
-  const [e, , , c, made] = eventOf(n), t = takenBy(n), b = s => el('b', {}, s), out = [], was = WAS[K + n], f = t[0] === 'i' ? t[1] : -1;
+  const {element: e, change: c, made} = eventOf(n), t = takenBy(n), b = s => el('b', {}, s), out = [], was = WAS[K + n], f = t[0] === 'i' ? t[1] : -1;
   out.push(b('Event ' + no(n)), ', element ' + e);
   switch (t[0]) {
     case 'i': {
@@ -305,11 +328,11 @@ function sentence(n) {
       }
       break;
     }
-    case 'r': out.push(': cell ', b(cell(t[1])), ' is read');
+    case 'f': out.push(': cell ', b(cell(t[1])), ' is read');
       if (c) out.push('; it is empty, so the read waits there' + (was >= 0 ? ', behind ' + many(readersOf(was).length, 'other') : ''),
           '; the answer is for ' + word(t[2]));
       else out.push('; it is full'); break;
-    case 'w': { const waited = readersOf(was).length; out.push(': ', b(t[2]), ' is written to cell ', b(cell(t[1])));
+    case 's': { const waited = readersOf(was).length; out.push(': ', b(t[2]), ' is written to cell ', b(cell(t[1])));
       out.push(waited ? '; ' + many(waited, 'read that waited is', 'reads that waited are') + ' answered' : '; no read waited'); break; }
     case 'q': out.push(': the ', b('frame manager'), ' is asked for a frame, for ' + word(t[1]));
       out.push(c && c[0] === 'q' ? '; none is free, so the request waits' : c ? '; frame ' + c[1] + ' is in use from now on' : ''); break;

@@ -51,7 +51,7 @@ pub fn write_part<W: Write>(writer: &mut W, part: Part) -> io::Result<()>
 }
 
 /// A page of more events than this is slow to open.
-const LARGE: usize = 200_000;
+const LARGE: usize = 1_000_000;
 
 fn large_mark(events: usize) -> &'static [u8]
     ensures { result.now ≡ large_mark events }

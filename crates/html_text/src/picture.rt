@@ -223,7 +223,7 @@ function marks(n, s, pool, f) {
   hot = [];
   const on = (e, c) => { if (e) { e.classList.add(c); hot.push([e, c]); } };
   const ev = n < 0 ? null : eventOf(n), src = ipOf(n), all = $('fsel').value === 'all';
-  if (src >= 0) { on(CODE[src] && CODE[src].g, 'act'); on(rowOf.get(src), 'act'); if (farOf.get(src) && ev[4].length) on(farOf.get(src), 'on'); }
+  if (src >= 0) { on(CODE[src] && CODE[src].g, 'act'); on(rowOf.get(src), 'act'); if (farOf.get(src) && ev.made.length) on(farOf.get(src), 'on'); }
   if (picked && picked.ip !== undefined) on(CODE[picked.ip] && CODE[picked.ip].g, 'sel');
   for (const r of told.keys()) r.lastChild.textContent = '';
   told.clear();
@@ -232,7 +232,7 @@ function marks(n, s, pool, f) {
   const spot = (k, x, y) => { const c = stack.get(k) || 0; stack.set(k, c + 1); return c > 5 ? null : [x + c * 7, y - c * 13]; };
   const side = (ip, port) => CODE[ip].two ? (port === 'l' ? -1 : 1) * place.get(ip).w / 4 : 0;
   const rest = ip => others.set(ip, (others.get(ip) || 0) + 1);
-  if (ev) for (const m of ev[4]) if (m[0] === 'i' && src >= 0) for (const d of reach(m[2], m[3])) {
+  if (ev) for (const m of ev.made) if (m[0] === 'i' && src >= 0) for (const d of reach(m[2], m[3])) {
     const e = m[1] === TO[TAKES[n]] && edgeOf.get(src + '>' + d.ip + d.port), A = place.get(src), Z = place.get(d.ip);
     if (e) on(e.path, 'hot');
     else if (A && Z && !farOf.get(src)) { const up = Z.y < A.y, h = up ? -30 : 40, zx = Z.x + side(d.ip, d.port);
@@ -270,7 +270,7 @@ function marks(n, s, pool, f) {
       if (Z) kids.push(sv('text', {class: 'others', x: Z.x + Z.w / 2 - 4, y: Z.y + NH + 10, 'text-anchor': 'middle'}, '+' + c)); });
   if (layer) layer.append(...kids);
   let focus = src;
-  if (focus < 0 && ev) for (const m of ev[4]) if (m[0] === 'i') for (const d of reach(m[2], m[3])) focus = d.ip;
+  if (focus < 0 && ev) for (const m of ev.made) if (m[0] === 'i') for (const d of reach(m[2], m[3])) focus = d.ip;
   return focus < 0 ? src : focus;
 }
 function reveal(focus, src) {  // asks for the page's layout, so comes last

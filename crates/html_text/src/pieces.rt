@@ -1,6 +1,7 @@
-//! Pieces of arrays.
+//! Pieces of the data: numbers and words behind letters.
 
-ghost use Rattle.html_text.specs.DataText.{number_text, last_number_text, last_word_text, number_word_text, numbers_text};
+ghost use Rattle.std.specs.Prelude.{◌+◌};
+ghost use Rattle.html_text.specs.DataText.{number_text, beyond_text, tagged_word, number_word_text, numbers_text};
 ghost use Rattle.sink.specs.Sends.{Sends};
 
 use itoa::Buffer;
@@ -25,24 +26,31 @@ pub(crate) fn send_long<W: Write>(writer: &mut W, tag: &[u8], number: u64) -> io
     send_all(writer, &[tag, digits.format(number).as_bytes()])
 }
 
-/// A tag and a number, which ends an array.
-pub(crate) fn send_last_number<W: Write>(writer: &mut W, tag: &[u8], number: u32) -> io::Result<()>
-    ensures { Sends result (W.contents writer.old) (W.contents writer.new) (last_number_text tag.now number) }
+/// A tag, and how far a number is beyond that of the event at this place.
+pub(crate) fn send_beyond<W: Write>(
+    writer: &mut W,
+    tag: &[u8],
+    number: u64,
+    first: u64,
+    place: usize,
+) -> io::Result<()>
+    ensures { Sends result (W.contents writer.old) (W.contents writer.new) (beyond_text tag.now number (first + place)) }
 {
-    send_number(writer, tag, number)?;
-    send(writer, b"]")
+    let event = i128::from(first) + place as i128;
+    let mut digits = Buffer::new();
+    let beyond = digits.format(i128::from(number) - event);
+    send_all(writer, &[tag, beyond.as_bytes()])
 }
 
-/// A tag and a word, which ends an array.
-pub(crate) fn send_last_word<W: Write>(writer: &mut W, tag: &[u8], word: Word) -> io::Result<()>
-    ensures { Sends result (W.contents writer.old) (W.contents writer.new) (last_word_text tag.now word) }
+/// A tag and a word.
+pub(crate) fn send_tagged_word<W: Write>(writer: &mut W, tag: &[u8], word: Word) -> io::Result<()>
+    ensures { Sends result (W.contents writer.old) (W.contents writer.new) (tagged_word tag.now word) }
 {
     send(writer, tag)?;
-    send_word(writer, word)?;
-    send(writer, b"\"]")
+    send_word(writer, word)
 }
 
-/// A tag, a number and a word, which ends an array.
+/// A tag, a number and a word.
 pub(crate) fn send_number_word<W: Write>(
     writer: &mut W,
     tag: &[u8],
@@ -52,7 +60,7 @@ pub(crate) fn send_number_word<W: Write>(
     ensures { Sends result (W.contents writer.old) (W.contents writer.new) (number_word_text tag.now number word) }
 {
     send_number(writer, tag, number)?;
-    send_last_word(writer, b",\"", word)
+    send_tagged_word(writer, b":", word)
 }
 
 /// A tag and two numbers.

@@ -187,7 +187,9 @@ kbd{border:1px solid var(--line);border-radius:3px;padding:0 .25em;font-size:.8e
 <a id="link" href="#event=start">link to this moment</a>
 <span id="told" role="status"></span>
 </div>
-<section class="card" id="tl" aria-label="Timeline">
+<section class="card" id="tl" aria-label="Waves and timeline">
+<canvas id="wv" tabindex="0" role="slider" aria-label="Wave of the run (left and right arrow)" aria-valuemin="0"></canvas>
+<div class="legend" id="wlegend"></div>
 <canvas id="cv" tabindex="0" role="slider" aria-label="Event of the run" aria-valuemin="-1"></canvas>
 <div class="legend" id="legend"></div>
 </section>

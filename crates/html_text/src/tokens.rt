@@ -2,18 +2,15 @@
 
 ghost use Rattle.std.specs.Prelude.{◌≡◌};
 ghost use Rattle.tags.specs.declared.token.To.{To};
-ghost use Rattle.html_text.specs.DataText.{token_text, comma, listed_token, tokens_text};
+ghost use Rattle.html_text.specs.DataText.{token_text, semicolon, listed_token, tokens_text};
 ghost use Rattle.sink.specs.Sends.{Sends};
 
-use crate::pieces::{
-    send_last_number, send_last_word, send_number, send_number_word, send_numbers,
-};
+use crate::pieces::{send_number, send_number_word, send_numbers, send_tagged_word};
 use disassembler::port_letter;
-use sink::{send, send_all};
+use sink::send;
 use std::io::{self, Write};
 use tags::token::{FrameId, Port, To, Token, Word};
 use tags::value::Value;
-use trace_text::send_word;
 
 /// A token to an instruction.
 fn send_to_instr<W: Write>(
@@ -25,19 +22,16 @@ fn send_to_instr<W: Write>(
 ) -> io::Result<()>
     ensures { Sends result (W.contents writer.old) (W.contents writer.new) (token_text (To.Instr frame ip port) word) }
 {
-    send_numbers(writer, b"[\"i\",", frame, ip)?;
-    send_all(writer, &[b",\"", port_letter(port)])?;
-    send_last_word(writer, b"\",\"", word)
+    send_numbers(writer, port_letter(port), frame, ip)?;
+    send_tagged_word(writer, b":", word)
 }
 
 /// A store.
 fn send_store<W: Write>(writer: &mut W, cell: u32, value: Value, word: Word) -> io::Result<()>
     ensures { Sends result (W.contents writer.old) (W.contents writer.new) (token_text (To.Store cell value) word) }
 {
-    send_number(writer, b"[\"w\",", cell)?;
-    send(writer, b",\"")?;
-    send_word(writer, Word::Val(value))?;
-    send_last_word(writer, b"\",\"", word)
+    send_number_word(writer, b"s", cell, Word::Val(value))?;
+    send_tagged_word(writer, b":", word)
 }
 
 /// A token.
@@ -46,21 +40,21 @@ fn send_token<W: Write>(writer: &mut W, token: &Token) -> io::Result<()>
 {
     match token.to {
         To::Instr { frame, ip, port } => send_to_instr(writer, frame, ip, port, token.word),
-        To::Fetch { cell } => send_number_word(writer, b"[\"r\",", cell, token.word),
+        To::Fetch { cell } => send_number_word(writer, b"f", cell, token.word),
         To::Store { cell, value } => send_store(writer, cell, value, token.word),
-        To::Manager => send_last_word(writer, b"[\"q\",\"", token.word),
-        To::Release { frame } => send_last_number(writer, b"[\"b\",", frame),
-        To::Host { port } => send_number_word(writer, b"[\"h\",", port, token.word),
+        To::Manager => send_tagged_word(writer, b"q:", token.word),
+        To::Release { frame } => send_number(writer, b"b", frame),
+        To::Host { port } => send_number_word(writer, b"h", port, token.word),
     }
 }
 
-/// What is before an item of a list.
-pub(crate) fn comma(place: usize) -> &'static [u8]
-    ensures { result.now ≡ comma place }
+/// What is before a token of a list.
+fn semicolon(place: usize) -> &'static [u8]
+    ensures { result.now ≡ semicolon place }
 {
     match place {
         0 => b"",
-        _ => b",",
+        _ => b";",
     }
 }
 
@@ -68,11 +62,11 @@ pub(crate) fn comma(place: usize) -> &'static [u8]
 fn send_listed<W: Write>(writer: &mut W, place: usize, token: &Token) -> io::Result<()>
     ensures { Sends result (W.contents writer.old) (W.contents writer.new) (listed_token place token.now) }
 {
-    send(writer, comma(place))?;
+    send(writer, semicolon(place))?;
     send_token(writer, token)
 }
 
-/// Tokens, with commas between them.
+/// Tokens, with semicolons between them.
 pub(crate) fn send_tokens<W: Write>(writer: &mut W, tokens: &[Token]) -> io::Result<()>
     ensures { Sends result (W.contents writer.old) (W.contents writer.new) (tokens_text tokens.now) }
 {

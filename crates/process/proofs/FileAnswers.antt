@@ -1,6 +1,7 @@
 -- What is printed of a file, and what explains it.
-use Rattle.std.proofs.Common.{◌≡◌, ◌⊎◌, ℕ, List, ◌++◌, inl, inr, subst, sym}
-use Rattle.std.specs.Prelude.{Option, Some, None, Result, Ok, Err, MatchResult, Vec}
+use Rattle.std.proofs.Common.{◌≡◌, ◌⊎◌, ℕ, Bool, true, false, List, [], ◌++◌, inl, inr, subst, sym}
+use Rattle.std.specs.Prelude.{◌||◌, Option, Some, None, Result, Ok, Err, MatchResult, Vec}
+use Rattle.std.specs.declared.io.Error.{Error}
 use Rattle.command_line.specs.declared.Request.{Request}
 use Rattle.command_line.specs.declared.given.FileRequest.{FileRequest}
 use Rattle.command_line.specs.declared.inputs.Inputs.{Inputs}
@@ -9,20 +10,36 @@ use Rattle.outcomes.specs.declared.refusal.Refusal.{Refusal}
 use Rattle.commands.specs.FileInputs.{IsInputOf, IsNoInputOf}
 use Rattle.process.specs.declared.sending.HintSent.{HintSent}
 use Rattle.process.specs.HintSent.{Account, Speaks}
-use Rattle.process.specs.Files.{AnswersInput, AnswersRead, ExplainsRead}
+use Rattle.process.specs.Files.{AnswersInput, AnswersRead, ChosenIf, ExplainsRead, Printing, PrintsFile, PrintsInput}
 
 -- what was read of the file, or why that is nothing
 abbrev pub WasRead : {A : Type 0} → FileRequest → List ℕ → Result (Vec ℕ A) Refusal → Type 0
 WasRead file bytes input = MatchResult input (λ v. IsInputOf file.request file.inputs bytes v.items) (IsNoInputOf file.request bytes)
 
-pub answers_read : {A : Type 0} (file : FileRequest) (bytes : List ℕ) (input : Result (Vec ℕ A) Refusal) (old held new holds : Option (List ℕ)) (outcome : Option Outcome)
-    → old ≡ held → new ≡ holds → WasRead file bytes input → AnswersInput file.request input old new outcome → AnswersRead bytes file held holds outcome
-answers_read file bytes (Ok v) old held new holds outcome before after is (all, served, prints, flushes) =
-    subst (λ o. AnswersRead bytes file o holds outcome) before (subst (λ n. AnswersRead bytes file old n outcome) after
-    (all, served, inl (v.items, is, prints), flushes))
-answers_read file bytes (Err f) old held new holds outcome before after is (all, served, refuses, flushes) =
-    subst (λ o. AnswersRead bytes file o holds outcome) before (subst (λ n. AnswersRead bytes file old n outcome) after
-    (all, served, inr (f, is, refuses), flushes))
+-- what is printed of the input is printed of the file
+module _ (P Q : Printing) (go : (s : Result Outcome Error) (o a : Option (List ℕ)) → P s o a → Q s o a) where
+  pub chosen_too : (chooses : Bool) (words : List (List ℕ)) (served : Result Outcome Error) (old all : Option (List ℕ))
+      → ChosenIf chooses P words served old all → ChosenIf chooses Q words served old all
+  chosen_too false words served old all p = go served old all p
+  chosen_too true words served old all (inl p) = inl (p.0, p.1, p.2, go (Ok p.1) (Some []) (Some p.0) p.3, p.4, p.5)
+  chosen_too true words served old all (inr p) = inr p
+
+prints_file : {A : Type 0} (file : FileRequest) (bytes : List ℕ) (input : Result (Vec ℕ A) Refusal) → WasRead file bytes input
+    → (s : Result Outcome Error) (o a : Option (List ℕ)) → PrintsInput file.request input s o a → PrintsFile bytes file s o a
+prints_file file bytes (Ok v) is s o a prints = inl (v.items, is, prints)
+prints_file file bytes (Err f) is s o a refuses = inr (f, is, refuses)
+
+pub answers_read : {A : Type 0} (file : FileRequest) (words : List (List ℕ)) (bytes : List ℕ) (input : Result (Vec ℕ A) Refusal)
+    (old held new holds : Option (List ℕ)) (outcome : Option Outcome) → old ≡ held → new ≡ holds → WasRead file bytes input
+    → AnswersInput file.options words file.request input old new outcome → AnswersRead words bytes file held holds outcome
+answers_read file words bytes input old held new holds outcome before after is (all, served, prints, flushes) =
+    subst (λ o. AnswersRead words bytes file o holds outcome) before (subst (λ n. AnswersRead words bytes file old n outcome) after (
+      all,
+      served,
+      chosen_too (λ s o a. PrintsInput file.request input s o a) (λ s o a. PrintsFile bytes file s o a) (prints_file file bytes input is)
+          (file.options.cells || file.options.grid) words served old all prints,
+      flushes,
+    ))
 
 -- what is shown to those who explain the run
 pub shown_is : {A : Type 0} (file : FileRequest) (bytes shown : List ℕ) (input : Result (Vec ℕ A) Refusal) → WasRead file bytes input

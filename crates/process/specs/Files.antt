@@ -1,13 +1,15 @@
 -- What a process writes, and its exit status, where its words name a file.
-use Rattle.std.specs.Prelude.{◌≡◌, ◌≤◌, ◌⊎◌, ℕ, Bool, true, false, List, [], ◌∷◌, length, Option, Some, None, Result, IfSome, MatchResult, Vec, ⊤, codes}
+use Rattle.std.specs.Prelude.{◌≡◌, ◌≤◌, ◌⊎◌, ◌||◌, ℕ, Bool, true, false, List, [], ◌∷◌, length, Option, Some, None, Result, Ok, Err, IfSome, MatchResult, Vec, ⊤, codes}
 use Rattle.std.specs.Str.{bytes_eq}
 use Rattle.std.specs.declared.io.Error.{Error}
-use Rattle.command_line.specs.Files.{command_word}
+use Rattle.command_line.specs.Files.{command_word, option_value}
 use Rattle.command_line.specs.declared.Command.{Command}
 use Rattle.command_line.specs.declared.Request.{Request}
+use Rattle.command_line.specs.declared.given.FileOptions.{FileOptions}
 use Rattle.command_line.specs.declared.given.FileRequest.{FileRequest}
 use Rattle.command_line.specs.declared.given.Given.{Given}
 use Rattle.sink.specs.Sends.{Sends}
+use Rattle.chosen_cells.specs.Chosen.{chosen}
 use Rattle.files.specs.Files.{unread_line}
 use Rattle.files.specs.declared.unread.Unread.{Unread}
 use Rattle.outcomes.specs.declared.outcome.Outcome.{Outcome}
@@ -30,28 +32,66 @@ HasIf has remaining name bytes false = has name bytes
 abbrev pub Has : Folder → Option (List ℕ) → List ℕ → List ℕ → Type 0
 Has has remaining name bytes = HasIf has remaining name bytes (bytes_eq name (codes "-"))
 
+-- CELLS THAT ARE CHOSEN: where P is what is printed otherwise, what is chosen of its text; or memory is refused.
+abbrev pub Printing : Type 1
+Printing = Result Outcome Error → Option (List ℕ) → Option (List ℕ) → Type 0
+
+abbrev pub done : Result ⊤ Error → Outcome → Result Outcome Error
+done (Ok sent) printed = Ok printed
+done (Err e) printed = Err e
+
+abbrev pub Chosen : Printing → Option (List ℕ) → Option (List ℕ) → Printing
+Chosen P cells grid served old all =
+    ((text : List ℕ) × (printed : Outcome) × (sent : Result ⊤ Error) × P (Ok printed) (Some []) (Some text) × Sends sent old all (chosen cells grid text)
+    × (served ≡ done sent printed))
+    ⊎ Refuses served old all Refusal.Memory
+
+abbrev pub ChosenIf : Bool → Printing → List (List ℕ) → Printing
+ChosenIf false P words served old all = P served old all
+ChosenIf true P words served old all = Chosen P (option_value (codes "cells") words) (option_value (codes "grid") words) served old all
+
+-- what is printed with these words, which give these options
+abbrev pub Shown : FileOptions → List (List ℕ) → Printing → Printing
+Shown options words P served old all = ChosenIf (options.cells || options.grid) P words served old all
+
 -- What is printed of this input, or the refusal, and whether it was written out.
-abbrev pub AnswersInput : {A : Type 0} → Request → Result (Vec ℕ A) Refusal → Option (List ℕ) → Option (List ℕ) → Option Outcome → Type 0
-AnswersInput request input old new outcome =
+abbrev pub PrintsInput : {A : Type 0} → Request → Result (Vec ℕ A) Refusal → Printing
+PrintsInput request input served old all = MatchResult input (λ v. Prints served old all v.items request) (Refuses served old all)
+
+abbrev pub AnswersInput : {A : Type 0} → FileOptions → List (List ℕ) → Request → Result (Vec ℕ A) Refusal → Option (List ℕ) → Option (List ℕ)
+    → Option Outcome → Type 0
+AnswersInput options words request input old new outcome =
     (all : Option (List ℕ)) × (served : Result Outcome Error)
-    × MatchResult input (λ v. Prints served old all v.items request) (Refuses served old all) × Flushes all new served outcome
+    × Shown options words (λ s o a. PrintsInput request input s o a) served old all × Flushes all new served outcome
 
 -- STANDARD OUTPUT held `old`, and holds `new`: what it held before, followed by what is printed of the file with these bytes.
-abbrev pub AnswersRead : List ℕ → FileRequest → Option (List ℕ) → Option (List ℕ) → Option Outcome → Type 0
-AnswersRead bytes file old new outcome =
-    (all : Option (List ℕ)) × (served : Result Outcome Error) × AnswersFile served old all bytes file.request file.inputs × Flushes all new served outcome
+abbrev pub PrintsFile : List ℕ → FileRequest → Printing
+PrintsFile bytes file served old all = AnswersFile served old all bytes file.request file.inputs
+
+abbrev pub AnswersRead : List (List ℕ) → List ℕ → FileRequest → Option (List ℕ) → Option (List ℕ) → Option Outcome → Type 0
+AnswersRead words bytes file old new outcome =
+    (all : Option (List ℕ)) × (served : Result Outcome Error)
+    × Shown file.options words (λ s o a. PrintsFile bytes file s o a) served old all × Flushes all new served outcome
 
 -- STANDARD ERROR: the explanation of a run is of the words, of what the command read of the file, or where that is nothing of the file, and of the outcome.
 abbrev pub ExplainsRead : Account → List (List ℕ) → List ℕ → FileRequest → Option Outcome → Option (List ℕ) → Type 0
 ExplainsRead accounts words bytes file outcome text =
     (input : List ℕ) × ((input ≡ bytes) ⊎ IsInputOf file.request file.inputs bytes input) × accounts words (Some input) outcome text
 
--- THE PROCESS over the bytes of a file. `old` and `new` are what standard output holds before and after, and `silent` and `spoken` what standard error holds.
+-- WARNINGS on standard error: some lines, or a beginning of them; with `--quiet` none
+abbrev pub Warns : Bool → Option (List ℕ) → Option (List ℕ) → Type 0
+Warns true silent warned = warned ≡ silent
+Warns false silent warned = (lines : List ℕ) × (sent : Result ⊤ Error) × Sends sent silent warned lines
+
+-- THE PROCESS over the bytes of a file. `old` and `new` are what standard output holds before and after, and `silent` and `spoken` what standard error holds:
+-- the warnings, and then the explanation.
 pub record EndsOver (accounts : Account) (words : List (List ℕ)) (file : FileRequest) (bytes : List ℕ) (old new silent spoken : Option (List ℕ))
     (outcome : Option Outcome) (status : ℕ) (hint_sent : HintSent) : Type 0 where
-  pub answers : AnswersRead bytes file old new outcome
+  pub answers : AnswersRead words bytes file old new outcome
   pub exit : status ≡ exits outcome
-  pub explains : Speaks (ExplainsRead accounts words bytes file outcome) silent spoken hint_sent
+  pub warned : Option (List ℕ)
+  pub warns : Warns file.options.quiet silent warned
+  pub explains : Speaks (ExplainsRead accounts words bytes file outcome) warned spoken hint_sent
 
 -- THE PROCESS, where the file was read
 pub record EndsRead (accounts : Account) (has : Folder) (words : List (List ℕ)) (file : FileRequest) (remaining old new silent spoken : Option (List ℕ))

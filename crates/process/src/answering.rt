@@ -1,14 +1,15 @@
 //! The answer on standard output, and its outcome.
 
-ghost use Rattle.std.specs.Prelude.{◌≡◌, [], IfSome, Ok, drop, map};
+ghost use Rattle.std.specs.Prelude.{◌≡◌, [], IfSome, Ok, drop, map, option_map};
 ghost use Rattle.std.specs.Io.Buffered.{writer_buffer, writer_contents, writer_inner};
 ghost use Rattle.std.specs.Io.KnownBytes.{Keeps};
 ghost use Rattle.process.specs.Process.{Answers};
-ghost use Rattle.process.specs.Files.{AnswersInput};
+ghost use Rattle.process.specs.Files.{AnswersInput, Chosen, PrintsInput, Shown};
 
-use command_line::Request;
+use chosen_cells::write_chosen;
+use command_line::{FileOptions, FileRequest, Request, option_value};
 use commands::filed::answer_input;
-use commands::serving::serve_words;
+use commands::serving::{arguments_of, serve_words};
 use driver::resources::Resources;
 use outcomes::{Outcome, Refusal};
 use rounds::Open;
@@ -47,16 +48,66 @@ pub fn answer<S: AsStr, I: Read, W: Write + Drop, R: Threads + Wait + Sync>(
     flushed(writer, served)
 }
 
-/// Prints what is asked for of this input, or the refusal, and writes out all that the buffer holds. Gives the outcome, where no
-/// write failed.
-pub fn answer_read<W: Write + Drop, R: Threads + Wait + Sync>(
+/// Prints what is chosen of the text that is asked for of this input.
+fn answer_chosen<W: Write, R: Threads + Wait + Sync>(
+    cells: Option<&str>,
+    grid: Option<&str>,
     request: &Request,
+    input: &Result<Vec<u8>, Refusal>,
+    writer: &mut W,
+    resources: Resources<'_, Global, R, Open>,
+) -> io::Result<Outcome>
+    ensures { Chosen (λ s o a. PrintsInput request.now input.now s o a) (option_map (λ s. s.now) cells.entry) (option_map (λ s. s.now) grid.entry)
+        result (W.contents writer.old) (W.contents writer.new) }
+{
+    let Resources { alloc, rt, gate } = resources;
+    let mut text = Vec::new(alloc);
+    match answer_input(request, input, &mut text, Resources { alloc, rt, gate }) {
+        Ok(outcome) => match write_chosen(writer, cells, grid, &text) {
+            Ok(()) => Ok(outcome),
+            Err(fault) => Err(fault),
+        },
+        Err(_refused) => {
+            let refused: Result<Vec<u8>, Refusal> = Err(Refusal::Memory);
+            answer_input(request, &refused, writer, Resources { alloc, rt, gate })
+        }
+    }
+}
+
+/// Prints what is asked for of this input with these words, which give these options; or the refusal.
+fn answer_shown<S: AsStr, W: Write, R: Threads + Wait + Sync>(
+    words: &[S],
+    options: FileOptions,
+    request: &Request,
+    input: &Result<Vec<u8>, Refusal>,
+    writer: &mut W,
+    resources: Resources<'_, Global, R, Open>,
+) -> io::Result<Outcome>
+    ensures { Shown options (map S.text (drop 1 words.now)) (λ s o a. PrintsInput request.now input.now s o a) result (W.contents writer.old)
+        (W.contents writer.new) }
+{
+    if options.cells || options.grid {
+        let words = arguments_of(words);
+        let cells = option_value("cells", words);
+        let grid = option_value("grid", words);
+        answer_chosen(cells, grid, request, input, writer, resources)
+    } else {
+        answer_input(request, input, writer, resources)
+    }
+}
+
+/// Prints what is asked for of this input with these words, which give these options, or the refusal, and writes out all that the buffer
+/// holds. Gives the outcome, where no write failed.
+pub fn answer_read<S: AsStr, W: Write + Drop, R: Threads + Wait + Sync>(
+    words: &[S],
+    file: &FileRequest<'_>,
     input: &Result<Vec<u8>, Refusal>,
     writer: &mut BufWriter<W>,
     resources: Resources<'_, Global, R, Open>,
 ) -> Option<Outcome>
-    ensures { AnswersInput request.now input.now (writer_contents W.contents writer.old) (W.contents (writer_inner writer.new)) result }
+    ensures { AnswersInput file.now.options (map S.text (drop 1 words.now)) file.now.request input.now (writer_contents W.contents writer.old)
+        (W.contents (writer_inner writer.new)) result }
 {
-    let served = answer_input(request, input, writer, resources);
+    let served = answer_shown(words, file.options, &file.request, input, writer, resources);
     flushed(writer, served)
 }

@@ -6,7 +6,7 @@ ghost use Rattle.std.specs.IoError.{error_kind};
 ghost use Rattle.std.specs.declared.io.ErrorKind.{ErrorKind};
 ghost use Rattle.command_line.specs.Files.{given};
 ghost use Rattle.process.specs.Hinted.{accounts_by_hint};
-ghost use Rattle.process.specs.Files.{EndsGiven, EndsRead, EndsUnread, EndsOver};
+ghost use Rattle.process.specs.Files.{EndsGiven, EndsRead, EndsUnread, EndsOver, Warns};
 
 use crate::answering::answer_read;
 use crate::explaining::{Explain, Hints};
@@ -20,11 +20,13 @@ use driver::resources::Resources;
 use files::{Content, Reads, Unread, content_of, reads_of, send_unread};
 use outcomes::Refusal;
 use rounds::Open;
+use sink::send;
 use std::alloc::Global;
 use std::convert::AsStr;
 use std::io::{self, BufWriter, Read, Write};
 use std::sync::Wait;
 use std::thread::Threads;
+use warnings::warnings_text;
 
 /// The exit status where a file cannot be read.
 const UNREAD: u8 = 1;
@@ -64,6 +66,36 @@ fn program_in<'a>(bytes: &'a [u8], request: &Request) -> Option<&'a [u8]> {
     }
 }
 
+/// Whether the command of this request lowers the program that these bytes have.
+fn lowers_program(bytes: &[u8], request: &Request) -> bool {
+    match content_of(bytes) {
+        Content::Program => {
+            matches!(request, Request::Lower(_)) || reads_of(request) != Reads::Bytes
+        }
+        Content::Graph | Content::Object => false,
+    }
+}
+
+/// The warnings of the program that these bytes have; none where the command does not lower it, or memory is refused.
+fn warnings_of(alloc: Global, bytes: &[u8], request: &Request) -> Vec<u8> {
+    if lowers_program(bytes, request) {
+        if let Ok(lines) = warnings_text(&alloc, bytes) {
+            return lines;
+        }
+    }
+    Vec::new(alloc)
+}
+
+/// Writes the warnings to standard error, unless they are to be left out.
+fn send_warnings<E: Write>(alloc: Global, bytes: &[u8], file: &FileRequest<'_>, errors: &mut E)
+    ensures { Warns file.now.options.quiet (E.contents errors.old) (E.contents errors.new) }
+{
+    if !file.options.quiet {
+        let lines = warnings_of(alloc, bytes, &file.request);
+        let _is_told = send(errors, &lines).is_ok();
+    }
+}
+
 /// What the command read of the file with these bytes; where that is nothing, the file.
 fn shown_of<'a>(input: &'a Result<Vec<u8>, Refusal>, bytes: &'a [u8]) -> &'a [u8]
     ensures { MatchResult input.now (λ v. result.now ≡ v.items) (λ _. result.now ≡ bytes.now) }
@@ -94,8 +126,9 @@ fn run_read<X: Explain, S: AsStr, I: Drop, W: Write + Drop, E: Write, R: Threads
     let alloc = resources.alloc;
     let mut writer = BufWriter::new(alloc, writer)?;
     let input = input_of(&alloc, bytes, &file.request, &file.inputs);
-    let outcome = answer_read(&file.request, &input, &mut writer, resources);
+    let outcome = answer_read(words, file, &input, &mut writer, resources);
     let (writer, _unwritten) = writer.into_parts();
+    send_warnings(alloc, bytes, file, errors);
     let program = program_in(bytes, &file.request);
     let shown = shown_of(&input, bytes);
     let hint_sent = send_hint(

@@ -1,27 +1,32 @@
 -- WHAT A SYMBOL DOES to a parser's state, with numbers for names.
-use Rattle.std.proofs.Common.{◌≡◌, ℕ, ◌≤◌, length, arith, Bool, true, false, List, [], ◌∷◌, ◌++◌, map, reverse, Option, None, Some, Result, Ok, Err}
-use Rattle.std.proofs.Common.{if◌then◌else◌, inl, inr, refl, sym, ap, ap₂, ◌∙◌, subst, append_assoc, append-nil}
+use Rattle.std.proofs.Common.{◌≡◌, ℕ, ◌≤◌, length, arith, Bool, true, false, List, [], ◌∷◌, ◌++◌, map, reverse, Option, None, Some, Result, Ok, Err, MatchResult}
+use Rattle.std.proofs.Common.{if◌then◌else◌, ◌⊎◌, inl, inr, refl, sym, ap, ap₂, ◌∙◌, subst, append_assoc, append-nil}
 use Rattle.std.proofs.lemmas.Bool.{le-leb}
 use Rattle.std.proofs.lemmas.List.{map-append, reverse-append}
 use Rattle.std.proofs.lemmas.List.Elements.{All-nil, All-cons, All-append, All-push, All-head, All-tail}
-use Rattle.std.specs.Prelude.{All, option_to_list, nat_le}
+use Rattle.std.specs.Prelude.{All, option_to_list, nat_le, ◌==◌, ◌^◌, ◌&&◌}
 use Rattle.source.specs.declared.fault.FaultKind.{FaultKind as CoreFaultKind}
-use Rattle.source.specs.declared.fault.FaultKind.TheVariants.{TooDeep}
+use Rattle.source.specs.declared.fault.FaultKind.TheVariants.{TooDeep, NotACell, BadNumber, Unexpected, Memory}
+use Rattle.source.specs.declared.token.Sign.TheVariants as core_sign
 use Rattle.source.specs.Tree.{Name}
 use Rattle.surface.specs.declared.fault.Fault.{Fault}
 use Rattle.surface.specs.declared.word.Word.{Word}
-use Rattle.surface.specs.Spelled.{Lexeme}
+use Rattle.surface.specs.declared.token.Sign.TheVariants as sign
+use Rattle.surface.specs.Spelled.{Lexeme, TheSign, TheNumber}
 use Rattle.surface.specs.Words.{Words, named}
 use Rattle.law_surface_text.specs.declared.symbol.Symbol.{Symbol}
 use Rattle.law_surface_text.specs.declared.symbol.Symbol.TheVariants.{Further, StepEnd}
-use Rattle.law_surface_text.specs.Automaton.{step_below, Outcome, Takes, Passes, Lacks, Moved, moved_after, advance, ended_then}
-use Rattle.law_surface_text.specs.Automaton.{finished, words_after}
+use Rattle.law_surface_text.specs.Automaton.{Stack, step_below, Outcome, Takes, Passes, Lacks, Refuses, appending, above, Moved, moved_after, advance_by, advance}
+use Rattle.law_surface_text.specs.Automaton.{is_taken, would_take, unexpected, blamed, ended_then, finished, words_after}
 use Rattle.law_surface_text.specs.Named.{named_symbol, named_stack}
-use Rattle.surface_text.specs.Outcomes.{few, shown, doing_named, behind, atop, reaction_named, IsShallow, AreShallow, IsShallowBelow, AreAllShallow}
+use Rattle.surface_text.specs.declared.lexeme.Lexeme.{Lexeme as CodeLexeme}
+use Rattle.surface_text.specs.declared.lexeme.Lexeme.TheVariants as code
+use Rattle.surface_text.specs.Outcomes.{lexeme_named, few, shown, doing_named, behind, atop, reaction_named, IsShallow, AreShallow, IsShallowBelow, AreAllShallow}
 use Rattle.surface_text.specs.declared.outcome.Pushes.{Pushes}
+use Rattle.surface_text.specs.declared.outcome.Outcome.{Outcome as CodeOutcome}
 use Rattle.surface_text.specs.declared.outcome.Outcome.TheVariants as done
 use Rattle.surface_text.specs.declared.reaction.Reaction.{Reaction}
-use Rattle.surface_text.specs.Running.{below_of, words_named, state, onward, reacted, ending, IsKind, IsFault}
+use Rattle.surface_text.specs.Running.{below_of, words_named, state, onward, reacted, ending, kind_or, IsKind, IsBlamed, IsFault}
 
 abbrev the_moved : Words → List (Symbol Name) → Result Moved CoreFaultKind
 the_moved a s = Ok (record { appended = a; stack = s })
@@ -44,6 +49,13 @@ stays_shallow s t r p needed is h e k m =
     subst (All IsShallow) (sym e)
     (All-append IsShallow (s ++ below_of r.below) (reverse (few p.symbols)) (pushed_shallow s r.below k m.1)
     (all_reversed (few p.symbols) (subst (λ o. AreShallow o p) is m.0 h)))
+
+-- whether a token is taken, where a symbol does this with it
+abbrev pub tried : CodeOutcome → (Bool → Result Moved CoreFaultKind) → Bool
+tried (done.Takes needed) passed = nat_le needed 200
+tried done.Passes passed = is_taken (passed false)
+tried done.Lacks passed = is_taken (passed true)
+tried done.Refuses passed = false
 
 module _ (names : List Name) where
   pub stack_more : (s : List (Symbol ℕ)) (x : Symbol ℕ) → named_stack names (s ++ x ∷ []) ≡ named_symbol names x ∷ named_stack names s
@@ -145,6 +157,61 @@ module _ (names : List Name) where
       ap (λ stack. moved_after (words_named names w) (advance 200 stack lacks at l)) (ap (named_stack names) e ∙ stack_more t x)
       ∙ ap (reacted at l (state names t w)) (sym is)
 
+  -- WHETHER A TOKEN WOULD BE TAKEN
+  taken_later : (ws : Words) (r : Result Moved CoreFaultKind) → is_taken (moved_after ws r) ≡ is_taken r
+  taken_later ws (Ok m) = refl
+  taken_later ws (Err kind) = refl
+
+  taken_within : (fits : Bool) (m : Moved) → is_taken (if fits then Ok m else Err TooDeep) ≡ fits
+  taken_within true m = refl
+  taken_within false m = refl
+
+  taken_appending : (ws : Words) (o : Outcome) (S : Stack) (passed : Bool → Result Moved CoreFaultKind)
+      → is_taken (advance_by 200 (appending ws o) S passed) ≡ is_taken (advance_by 200 o S passed)
+  taken_appending ws (Takes needed vs symbols) S passed = taken_within (nat_le needed 200) _ ∙ sym (taken_within (nat_le needed 200) _)
+  taken_appending ws (Passes vs) S passed = taken_later (ws ++ vs) (passed false) ∙ sym (taken_later vs (passed false))
+  taken_appending ws (Lacks vs) S passed = taken_later (ws ++ vs) (passed true) ∙ sym (taken_later vs (passed true))
+  taken_appending ws Refuses S passed = refl
+
+  taken_above : (below : Stack) (o : Outcome) (S : Stack) (passed : Bool → Result Moved CoreFaultKind)
+      → is_taken (advance_by 200 (above below o) S passed) ≡ is_taken (advance_by 200 o S passed)
+  taken_above below (Takes needed vs symbols) S passed = taken_within (nat_le needed 200) _ ∙ sym (taken_within (nat_le needed 200) _)
+  taken_above below (Passes vs) S passed = refl
+  taken_above below (Lacks vs) S passed = refl
+  taken_above below Refuses S passed = refl
+
+  taken_behind : (before : Option (Word ℕ)) (o : Outcome) (S : Stack) (passed : Bool → Result Moved CoreFaultKind)
+      → is_taken (advance_by 200 (behind names before o) S passed) ≡ is_taken (advance_by 200 o S passed)
+  taken_behind None o S passed = refl
+  taken_behind (Some w) o S passed = taken_appending (named names w ∷ []) o S passed
+
+  taken_atop : (below : Option ℕ) (o : Outcome) (S : Stack) (passed : Bool → Result Moved CoreFaultKind)
+      → is_taken (advance_by 200 (atop below o) S passed) ≡ is_taken (advance_by 200 o S passed)
+  taken_atop None o S passed = refl
+  taken_atop (Some d) o S passed = taken_above (Further d ∷ StepEnd d ∷ []) o S passed
+
+  taken_doing : (o : CodeOutcome) (p : Pushes) (S : Stack) (passed : Bool → Result Moved CoreFaultKind)
+      → is_taken (advance_by 200 (doing_named names (shown o p)) S passed) ≡ tried o passed
+  taken_doing (done.Takes needed) p S passed = taken_within (nat_le needed 200) _
+  taken_doing done.Passes p S passed = taken_later _ (passed false)
+  taken_doing done.Lacks p S passed = taken_later _ (passed true)
+  taken_doing done.Refuses p S passed = refl
+
+  -- the symbol on top meets the token
+  pub tries : (lacks : Bool) (l : Lexeme) (s t : List (Symbol ℕ)) (x : Symbol ℕ) (r : Reaction) (p : Pushes) → s ≡ t ++ x ∷ []
+      → reaction_named names r p ≡ step_below lacks (named_symbol names x) 0 l
+      → is_taken (advance 200 (named_stack names s) lacks 0 l) ≡ tried r.outcome (λ lacks. advance 200 (named_stack names t) lacks 0 l)
+  tries lacks l s t x r p e is =
+      let S = named_stack names t in
+      let passed : Bool → Result Moved CoreFaultKind = λ lacks. advance 200 S lacks 0 l in
+      ap (λ stack. is_taken (advance 200 stack lacks 0 l)) (ap (named_stack names) e ∙ stack_more t x)
+      ∙ ap (λ o. is_taken (advance_by 200 o S passed)) (sym is)
+      ∙ taken_behind r.before _ S passed ∙ taken_atop r.below _ S passed ∙ taken_doing r.outcome p S passed
+
+  pub tries_nothing : (lacks : Bool) (l : Lexeme) (s : List (Symbol ℕ)) → length s ≡ 0 → is_taken (advance 200 (named_stack names s) lacks 0 l) ≡ false
+  tries_nothing lacks l [] e = refl
+  tries_nothing lacks l (x ∷ s) e = absurd (omega (arith, e))
+
   -- THE END
   ends_after : (end : ℕ) (a b : Words) (o : Option Words) → words_after a (finished end (ended_then (Some b) o)) ≡ words_after (a ++ b) (finished end o)
   ends_after end a b None = refl
@@ -154,6 +221,36 @@ module _ (names : List Name) where
   ends end [] w e = ap Ok (append-nil (words_named names w))
   ends end (x ∷ s) w e = absurd (omega (arith, e))
 
+-- THE KIND THAT IS REPORTED
+blamed_is : (S : Stack) (l : Lexeme) (kind : CoreFaultKind) → blamed 200 S l kind ≡ kind_or kind (unexpected 200 S l)
+blamed_is S l Unexpected = refl
+blamed_is S l kind = refl
+
+-- of a `:=` and of a number
+pub store_blamed : (names : List Name) (S : Stack) (l : CodeLexeme) (u : CoreFaultKind) → l ≡ code.Mark (sign.Core core_sign.Becomes)
+    → (u ≡ Memory) ⊎ (u ≡ (if would_take 200 S (TheSign (sign.Core core_sign.Plus)) then NotACell else Unexpected))
+    → (u ≡ Memory) ⊎ (u ≡ unexpected 200 S (lexeme_named names l))
+store_blamed names S l u e h = subst (λ l. (u ≡ Memory) ⊎ (u ≡ unexpected 200 S (lexeme_named names l))) (sym e) h
+
+pub number_blamed : (names : List Name) (S : Stack) (l : CodeLexeme) (n : ℕ) (b : Bool) (u : CoreFaultKind) → l ≡ code.Number n → b ≡ (n == 2 ^ 63)
+    → b ≡ true → (u ≡ Memory) ⊎ (u ≡ (if would_take 200 S (TheNumber 0) then BadNumber else Unexpected))
+    → (u ≡ Memory) ⊎ (u ≡ unexpected 200 S (lexeme_named names l))
+number_blamed names S l n b u e f g h = subst (λ l. (u ≡ Memory) ⊎ (u ≡ unexpected 200 S (lexeme_named names l))) (sym e) (go h)
+  where
+    go : (u ≡ Memory) ⊎ (u ≡ (if would_take 200 S (TheNumber 0) then BadNumber else Unexpected)) → (u ≡ Memory) ⊎ (u ≡ unexpected 200 S (TheNumber n))
+    go (inl memory) = inl memory
+    go (inr is) = inr (is ∙ ap (λ t. if t && would_take 200 S (TheNumber 0) then BadNumber else Unexpected) (sym g ∙ f))
+
+pub blames : (names : List Name) (s : List (Symbol ℕ)) (l : Lexeme) (kind u : CoreFaultKind) (r : Result Moved CoreFaultKind) → IsKind kind r
+    → (u ≡ Memory) ⊎ (u ≡ unexpected 200 (named_stack names s) l) → IsBlamed names s l (kind_or kind u) r
+blames names s l kind u r (inl memory) known = inl (ap (λ k. kind_or k u) memory)
+blames names s l kind u r (inr is) (inr known) = inr (kind, is, ap (kind_or kind) known ∙ sym (blamed_is (named_stack names s) l kind))
+blames names s l kind u r (inr is) (inl memory) = go kind is
+  where
+    go : (kind : CoreFaultKind) → r ≡ Err kind → IsBlamed names s l (kind_or kind u) r
+    go Unexpected is = inl memory
+    go kind is = inr (kind, is, refl)
+
 pub same_fault : {T : Type 0} (f : Fault) (x y : Result T Fault) → y ≡ x → IsFault f x → IsFault f y
 same_fault f x y e (inl memory) = inl memory
 same_fault f x y e (inr is) = inr (e ∙ is)
@@ -161,3 +258,6 @@ same_fault f x y e (inr is) = inr (e ∙ is)
 pub same_kind : {T : Type 0} (k j : CoreFaultKind) (x y : Result T CoreFaultKind) → y ≡ x → j ≡ k → IsKind k x → IsKind j y
 same_kind k j x y e f (inl memory) = inl (f ∙ memory)
 same_kind k j x y e f (inr is) = inr (e ∙ is ∙ ap Err (sym f))
+
+pub errs : {T E : Type 0} (r : Result T E) (e : E) (P : T → Type 0) (Q : E → Type 0) → r ≡ Err e → Q e → MatchResult r P Q
+errs r e P Q is q = subst (λ r. MatchResult r P Q) (sym is) q

@@ -1,1 +1,5 @@
 pub mod Acting
+pub mod Known
+pub mod Named
+pub mod Tokens
+pub mod Trees

@@ -1,2 +1,4 @@
+pub mod Naming
 pub mod Outcomes
+pub mod Reading
 pub mod Running

@@ -1,7 +1,7 @@
 -- A PARSER'S STATE, with numbers for names: its stack, the top last, and the words so far.
 use Rattle.std.specs.Prelude.{◌≡◌, ◌⊎◌, ℕ, Bool, true, false, List, [], ◌∷◌, map, Option, None, Some, Result, Ok, Err}
 use Rattle.source.specs.declared.fault.FaultKind.{FaultKind as CoreFaultKind}
-use Rattle.source.specs.declared.fault.FaultKind.TheVariants.{Memory}
+use Rattle.source.specs.declared.fault.FaultKind.TheVariants.{Memory, Unexpected}
 use Rattle.source.specs.Tree.{Name}
 use Rattle.surface.specs.declared.fault.Fault.{Fault}
 use Rattle.surface.specs.declared.fault.FaultKind.TheVariants.{Core}
@@ -47,6 +47,11 @@ ending end m = words_after m.appended (finished end (finish m.stack))
 -- the kind of the fault that is the result, or a refused growth
 abbrev pub IsKind : {T : Type 0} → CoreFaultKind → Result T CoreFaultKind → Type 0
 IsKind kind r = (kind ≡ Memory) ⊎ (r ≡ Err kind)
+
+-- a kind, but another one where it is that of a token that is not expected
+abbrev pub kind_or : CoreFaultKind → CoreFaultKind → CoreFaultKind
+kind_or Unexpected other = other
+kind_or kind other = kind
 
 -- the kind with which a token is reported, or a refused growth
 abbrev pub IsBlamed : List Name → List (Symbol ℕ) → Lexeme → CoreFaultKind → Result Moved CoreFaultKind → Type 0

@@ -1,15 +1,22 @@
-//! The parser of programs with derived forms: it takes each token, and ends, exactly as the automaton of `law_surface_text` does.
-//!
-//! Nothing calls it yet. What is to come: the kind of a fault, a table of names, and the reader of whole texts.
+//! The programs of texts with derived forms: what a text's tokens say is read by the parser's automaton, exactly.
 #![tactic(auto)]
 
 mod after;
 mod bodies;
+mod expected;
 mod forms;
 mod items;
 mod lexeme;
+mod names;
 mod operands;
 mod outcome;
 mod parser;
 mod reaction;
+mod reading;
+mod refusal;
 mod signs;
+mod texts;
+
+pub use reading::{Parsed, Unread, parse};
+pub use refusal::{Expected, Form, Opened, ProgramRefusal, Stop, Within};
+pub use texts::{SurfaceText, read_program};

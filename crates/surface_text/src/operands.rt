@@ -1,6 +1,6 @@
 //! Operands.
 
-ghost use Rattle.std.specs.Prelude.{◌≡◌, ◌≤◌, ◌<◌, ◌+◌, ◌^◌, ◌∷◌, [], nat_lt};
+ghost use Rattle.std.specs.Prelude.{◌≡◌, ◌≤◌, ◌<◌, ◌+◌, ◌^◌, ◌==◌, ◌∷◌, [], nat_lt};
 ghost use Rattle.law_surface_text.specs.Automaton as automaton;
 ghost use Rattle.law_surface_text.specs.Named.{named_symbol};
 ghost use Rattle.surface_text.specs.declared.lexeme.Lexeme.TheVariants.{Number};
@@ -17,6 +17,13 @@ use surface::word::Word;
 
 /// The largest number, which is allowed only directly after a `-`.
 const LARGEST: u64 = 1 << 63;
+
+/// Whether a number is 2 ^ 63.
+pub(crate) fn is_largest(number: u64) -> bool
+    ensures { result ≡ (number == 2 ^ 63) }
+{
+    number == LARGEST
+}
 
 /// Whether a number is below 2 ^ 63.
 pub(crate) fn is_small(number: u64) -> bool

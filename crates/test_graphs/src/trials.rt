@@ -4,11 +4,11 @@ ghost use Rattle.std.specs.Prelude.{◌≡◌, ◌<◌, All};
 
 use crate::tally::{Runs, Tally};
 use crate::verdict::{Verdict, verdict_of};
-use command_line::Mode;
 use driver::emulation::{emulate, emulate_picks, run_text};
 use driver::fault::Fault;
 use driver::order::Order;
 use driver::resources::Resources;
+use mode::Mode;
 use oracle::MeanReport;
 use rounds::Open;
 use schedule::config::Config;

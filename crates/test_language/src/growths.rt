@@ -1,11 +1,11 @@
 //! Runs in which a growth is refused, from the program's text to the report.
 
 use crate::runs::{Subject, Verdict, config, verdict_of};
-use command_line::Mode;
 use driver::emulation::emulate;
 use driver::fault::Fault;
 use lowered_text::fault::{LowerFault, LowerRefusal};
 use lowered_text::write_lowered;
+use mode::Mode;
 use rounds::Open;
 use std::alloc::Global;
 use std::sync::Wait;

@@ -3,8 +3,8 @@
 ghost use Rattle.std.specs.Prelude.{◌≡◌, ◌<◌, All};
 
 use crate::tally::{Counts, Tally};
-use command_line::Mode;
 use driver::emulation::{emulate, emulate_picks};
+use mode::Mode;
 use rounds::Open;
 use schedule::config::Config;
 use schedule::report::Report;

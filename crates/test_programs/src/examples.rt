@@ -6,12 +6,12 @@
 mod tools;
 
 use crate::lines::count;
-use command_line::Mode;
 use commands::input::{parse_integers, split_at_main};
 use driver::emulation::run_text;
 use driver::meaning::mean_text;
 use driver::order::Order;
 use driver::resources::Resources;
+use mode::Mode;
 use report_text::{write_meaning, write_report};
 use rounds::Open;
 use schedule::config::Config;

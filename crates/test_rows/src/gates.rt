@@ -1,8 +1,8 @@
 //! Gates: what each element asks in its own thread, and how runs are stopped.
 
-use command_line::Mode;
 use driver::emulation::emulate;
 use driver::fault::Fault;
+use mode::Mode;
 use rounds::{Gate, Open};
 use schedule::config::Config;
 use schedule::report::Report;

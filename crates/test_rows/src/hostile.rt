@@ -3,9 +3,9 @@
 ghost use Rattle.std.specs.Prelude.{◌≡◌};
 
 use crate::lists::picks;
-use command_line::Mode;
 use driver::emulation::{emulate_object, emulate_object_picks};
 use driver::fault::Fault;
+use mode::Mode;
 use rounds::Open;
 use schedule::config::Config;
 use schedule::report::Report;

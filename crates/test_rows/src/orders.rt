@@ -3,9 +3,9 @@
 ghost use Rattle.std.specs.Prelude.{◌≡◌};
 
 use crate::lists::picks;
-use command_line::Mode;
 use driver::compiling::compile;
 use driver::emulation::{emulate, emulate_object_picks, emulate_picks};
+use mode::Mode;
 use rounds::Open;
 use schedule::config::Config;
 use schedule::report::Report;

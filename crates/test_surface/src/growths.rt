@@ -2,6 +2,7 @@
 
 use std::test::Fail;
 use surface::fault::FaultKind;
+use surface_text::read_program;
 use surface_tokens::lex;
 use test_inputs::rationed::{Rationed, is_next_refused};
 
@@ -51,5 +52,36 @@ fn refused_growths(rt: HostRuntime) -> Result<(), Fail> {
         refused = refused.wrapping_add(1);
     }
     assert!(rt; whole && refused > 1);
+    Ok(())
+}
+
+/// A program with each form.
+const PROGRAM: &[u8] =
+    b"const N = 2 * 4; array A[N, 3]; fn f(T[,], a, b) -> 2 { T[a, b] := 1; if a and b { not a }; a or b, b } \
+    fn main(n) { let x, _ = f(A, n, 2); for N i in 0..n with s = x, t = 1 { s + i, if s { t } else { -t } } }";
+
+/// Each growth of reading a whole text is refused in turn, until none is.
+#[test]
+fn refused_growths_of_a_program(rt: HostRuntime) -> Result<(), Fail> {
+    let memory = FaultKind::Core {
+        kind: source::fault::FaultKind::Memory,
+    };
+    let mut refused = 0u64;
+    let mut whole = false;
+    for growth in 1..100u64 {
+        let heap = Rationed::new(rt.alloc(), growth);
+        let fault = match read_program(&heap, PROGRAM) {
+            Ok(_) => None,
+            Err(refusal) => Some(refusal.fault.kind),
+        };
+        whole = is_next_refused(&heap);
+        if whole {
+            assert_eq!(rt; fault, None, "{growth}");
+            break;
+        }
+        assert_eq!(rt; fault, Some(memory), "{growth}");
+        refused = refused.wrapping_add(1);
+    }
+    assert!(rt; whole && refused > 10);
     Ok(())
 }

@@ -3,10 +3,11 @@
 use clap::ArgMatches;
 use clap::error::ErrorKind;
 use command_line::{
-    Asked, EventFormat, FileRequest, Format, Given, Inputs, Literals, Lowering, Mode, Request,
-    RunOptions, Sizes, Take, Topic, read_given, read_words, version_line,
+    Asked, EventFormat, FileOptions, FileRequest, Format, Given, Inputs, Literals, Lowering,
+    Request, RunOptions, Sizes, Take, Topic, option_value, read_given, read_words, version_line,
 };
 use command_texts::{help_text, mistake_text, program_command};
+use mode::Mode;
 use std::alloc::Global;
 use std::fmt;
 
@@ -255,9 +256,31 @@ fn are_inputs_of_object(alloc: Global, inputs: &Inputs, exec: &ArgMatches<'_>) -
     are_inputs(inputs, words.as_slice())
 }
 
-/// Whether `clap` reads this file and these inputs after it.
-fn is_file_read(file: &FileRequest<'_>, matches: &ArgMatches<'_>) -> bool {
-    let Some((_command, of_command)) = matches.subcommand() else {
+/// Whether the command works on a program, so that it may warn of it.
+fn may_warn(command: &str) -> bool {
+    !matches!(command, "exec" | "dis" | "upgrade" | "asm")
+}
+
+/// Whether `clap` reads these options of a file, with these values among the words.
+fn are_options_read(
+    options: FileOptions,
+    words: &[&str],
+    command: &str,
+    matches: &ArgMatches<'_>,
+) -> bool {
+    let cells = option_value("cells", words);
+    let grid = option_value("grid", words);
+    let is_quiet = may_warn(command) && matches.get_flag("quiet");
+    options.cells == cells.is_some()
+        && options.grid == grid.is_some()
+        && options.quiet == is_quiet
+        && (!options.cells || matches.get_str("cells") == cells)
+        && (!options.grid || matches.get_str("grid") == grid)
+}
+
+/// Whether `clap` reads this file and these inputs after it, and the options of a file among these words.
+fn is_file_read(file: &FileRequest<'_>, all: &[&str], matches: &ArgMatches<'_>) -> bool {
+    let Some((command, of_command)) = matches.subcommand() else {
         return false;
     };
     let words = of_command.get_strs("INPUT").unwrap_or(&[]);
@@ -267,6 +290,7 @@ fn is_file_read(file: &FileRequest<'_>, matches: &ArgMatches<'_>) -> bool {
     };
     of_command.get_str("FILE") == Some(file.name.text)
         && are_inputs(inputs, words)
+        && are_options_read(file.options, all, command, of_command)
         && is_request_read(&file.request, matches)
 }
 
@@ -370,7 +394,7 @@ pub fn agree_on(alloc: Global, words: &[&str]) -> anyhow::Result<Agreed> {
     let error = match program_command(alloc, words)?.try_get_matches_from(words) {
         Ok(matches) => {
             let agrees = match (&given, &asked) {
-                (Given::File(file), _) => is_file_read(file, &matches),
+                (Given::File(file), _) => is_file_read(file, rest, &matches),
                 (_, Asked::Request(request)) => is_read(alloc, request, &matches),
                 _ => false,
             };

@@ -154,6 +154,38 @@ const MEASURES: [&str; 22] = [
     "4",
 ];
 
+/// Options of a file, and what may be between them.
+const FILE_OPTIONS: [&str; 16] = [
+    "--cells",
+    "--cells A",
+    "--cells=A,B",
+    "--cells=",
+    "--grid A=8",
+    "--grid=A=8,B=4",
+    "--grid=A",
+    "--grid=A=0",
+    "--grid=",
+    "--quiet",
+    "--quiet=x",
+    "--frames=21",
+    "--",
+    "3",
+    "p.df",
+    "--help",
+];
+
+/// Words before them.
+const BEFORE_FILE_OPTIONS: [&str; 8] = [
+    "ets run",
+    "ets run p.df",
+    "ets mean p.df",
+    "ets orders p.df",
+    "ets check",
+    "ets lower p.df",
+    "ets exec",
+    "ets exec p.o",
+];
+
 /// What may follow `dis` and `dot`.
 const FLAGS: [&str; 13] = [
     "--literals",
@@ -316,6 +348,12 @@ fn main(rt: HostRuntime) -> anyhow::Result<()> {
         println!(rt;
             "{command}: {}",
             try_after(alloc, command, MEASURES.as_slice(), 2)?
+        )?;
+    }
+    for front in BEFORE_FILE_OPTIONS {
+        println!(rt;
+            "{front}, options of a file: {}",
+            try_after(alloc, front, FILE_OPTIONS.as_slice(), 2)?
         )?;
     }
     println!(rt; "numbers: {}", try_numbers(alloc)?)?;

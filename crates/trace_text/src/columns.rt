@@ -106,7 +106,7 @@ pub(crate) fn port_at(to: &To) -> &'static [u8]
 }
 
 /// The word of a deed.
-pub fn deed_word(deed: Deed) -> &'static [u8]
+pub(crate) fn deed_word(deed: Deed) -> &'static [u8]
     ensures { result.now ≡ deed_text deed }
 {
     match deed {

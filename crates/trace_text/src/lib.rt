@@ -8,6 +8,5 @@ mod lines;
 mod words;
 
 pub use chrome::write_chrome;
-pub use columns::deed_word;
 pub use lines::write_events;
 pub use words::send_word;

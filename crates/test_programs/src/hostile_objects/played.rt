@@ -4,9 +4,9 @@
 use crate::hostile_objects::object::bytes_of;
 use crate::hostile_objects::runs::{Runnable, config};
 use crate::hostile_objects::scenes::{SCENES, Scene, Wanted, words_of_scene};
-use command_line::Mode;
 use driver::emulation::emulate_object_picks;
 use driver::fault::Fault;
+use mode::Mode;
 use schedule::report::Report;
 use semantics::report::End;
 use std::alloc::{AllocError, Global};

@@ -4,12 +4,12 @@ ghost use Rattle.std.specs.Prelude.{◌≡◌, ◌<◌, All};
 
 use crate::hostile_objects::orders::in_turn;
 use crate::hostile_objects::sound::{Order, has_end, is_sound};
-use command_line::Mode;
 use driver::emulation::{emulate_object, emulate_object_picks, emulate_object_quietly};
 use driver::fault::Fault;
 use driver::objects::upgrade_object;
 use driver::order::Order as RunOrder;
 use driver::resources::Resources;
+use mode::Mode;
 use rounds::Open;
 use schedule::config::Config;
 use schedule::report::Report;

@@ -1,6 +1,6 @@
 use Rattle.std.proofs.Common.{false, ap, ◌∙◌, subst}
 use Rattle.std.specs.Prelude.{MatchResult}
-use Rattle.command_line.specs.declared.Mode.{Mode}
+use Rattle.mode.specs.declared.Mode.{Mode}
 use Rattle.schedule.specs.declared.take.Take.TheVariants.{Oldest}
 use Rattle.driver.specs.declared.order.Order.{Order}
 use Rattle.driver.specs.Headline.{stops_in}

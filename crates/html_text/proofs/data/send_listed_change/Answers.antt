@@ -1,7 +1,8 @@
 use Rattle.std.proofs.Common.{◌++◌, ℕ, List, Option, Err}
+use Rattle.std.specs.Prelude.{codes}
 use Rattle.html_text.specs.DataText.{line_lead, change_text}
 use Rattle.std.proofs.lemmas.Result.{err_from_is_err_and}
-use Rattle.sink.proofs.Sent.{sends_from, sends_more, sends_less, sends_other, sends_same}
+use Rattle.sink.proofs.Sent.{appends_then, sends_from, sends_more, sends_less, sends_other, sends_same}
 use Rattle.html_text.proofs.data.send_listed_change.Goals as goal
 
 pub returns-in_err-send : goal.returns-in_err-send
@@ -9,20 +10,39 @@ returns-in_err-send g c =
     let p = err_from_is_err_and c.from_residual.result c.from_residual.ensures.1 in
     let t1 : List ℕ = line_lead c.args.place in
     let t2 : List ℕ = change_text c.args.change in
+    let t3 : List ℕ = codes "\"" in
+    let e1 = c.line_lead.ensures in
     let w0 : Option (List ℕ) = g.W.Write.contents c.args.writer.now in
     let w1 : Option (List ℕ) = g.W.Write.contents c.send.new.writer in
+    rw p.1 (sends_less p.0 w0 w1 (t1 ++ t2) t3 (sends_less p.0 w0 w1 t1 t2 (sends_other c.in_err-send.field-0.0 p.0 w0 w1 t1 (sends_same
+    (Err c.in_err-send.field-0.0) w0 w1 _ t1 e1 c.in_err-send.ensures))))
+
+pub returns-in_err-send_change : goal.returns-in_err-send_change
+returns-in_err-send_change g c =
+    let p = err_from_is_err_and c.from_residual-in_err-send_change.result c.from_residual-in_err-send_change.ensures.1 in
+    let t1 : List ℕ = line_lead c.args.place in
+    let t2 : List ℕ = change_text c.args.change in
+    let t3 : List ℕ = codes "\"" in
     let e1 = c.line_lead.ensures in
-    rw p.1 (sends_less p.0 w0 w1 t1 t2 (sends_other c.in_err-send.field-0.0 p.0 w0 w1 t1 (sends_same
-    (Err c.in_err-send.field-0.0) w0 w1 _ t1 e1 c.in_err-send.ensures)))
+    let w0 : Option (List ℕ) = g.W.Write.contents c.args.writer.now in
+    let w1 : Option (List ℕ) = g.W.Write.contents c.send.new.writer in
+    let w2 : Option (List ℕ) = g.W.Write.contents c.send_change.new.writer in
+    rw p.1 (sends_less p.0 w0 w2 (t1 ++ t2) t3 (sends_more (Err p.0) w0 w1 w2 t1 t2
+    (sends_from c.send.result w0 w1 t1 c.in_ok-send.was (sends_same c.send.result w0 w1 _ t1 e1 c.send.ensures))
+    (sends_other c.in_err-send_change.field-0.0 p.0 w1 w2 t2 c.in_err-send_change.ensures)))
 
 pub returns : goal.returns
 returns g c =
     let t1 : List ℕ = line_lead c.args.place in
     let t2 : List ℕ = change_text c.args.change in
+    let t3 : List ℕ = codes "\"" in
+    let e1 = c.line_lead.ensures in
     let w0 : Option (List ℕ) = g.W.Write.contents c.args.writer.now in
     let w1 : Option (List ℕ) = g.W.Write.contents c.send.new.writer in
     let w2 : Option (List ℕ) = g.W.Write.contents c.send_change.new.writer in
-    let e1 = c.line_lead.ensures in
-    sends_more c.send_change.result w0 w1 w2 t1 t2
+    let w3 : Option (List ℕ) = g.W.Write.contents c.send-2.new.writer in
+    sends_more c.send-2.result w0 w2 w3 (t1 ++ t2) t3
+    (appends_then w0 w1 w2 t1 t2
     (sends_from c.send.result w0 w1 t1 c.in_ok-send.was (sends_same c.send.result w0 w1 _ t1 e1 c.send.ensures))
-    c.send_change.ensures
+    (sends_from c.send_change.result w1 w2 t2 c.in_ok-send_change.was c.send_change.ensures))
+    c.send-2.ensures

@@ -8,7 +8,7 @@ use Rattle.html_text.proofs.data.send_size.Goals as goal
 pub returns-in_err-send_number : goal.returns-in_err-send_number
 returns-in_err-send_number g c =
     let p = err_from_is_err_and c.from_residual.result c.from_residual.ensures.1 in
-    let t1 : List ℕ = number_text (codes "{\"format\":1,\"elements\":") c.args.elements in
+    let t1 : List ℕ = number_text (codes "{\"format\":2,\"elements\":") c.args.elements in
     let t2 : List ℕ = number_text (codes ",\"frames\":") c.args.frames in
     let t3 : List ℕ = number_text (codes ",\"first\":") c.args.first in
     let w0 : Option (List ℕ) = g.W.Write.contents c.args.writer.now in
@@ -19,7 +19,7 @@ returns-in_err-send_number g c =
 pub returns-in_err-send_number-2 : goal.returns-in_err-send_number-2
 returns-in_err-send_number-2 g c =
     let p = err_from_is_err_and c.from_residual-in_err-send_number-2.result c.from_residual-in_err-send_number-2.ensures.1 in
-    let t1 : List ℕ = number_text (codes "{\"format\":1,\"elements\":") c.args.elements in
+    let t1 : List ℕ = number_text (codes "{\"format\":2,\"elements\":") c.args.elements in
     let t2 : List ℕ = number_text (codes ",\"frames\":") c.args.frames in
     let t3 : List ℕ = number_text (codes ",\"first\":") c.args.first in
     let w0 : Option (List ℕ) = g.W.Write.contents c.args.writer.now in
@@ -31,7 +31,7 @@ returns-in_err-send_number-2 g c =
 
 pub returns : goal.returns
 returns g c =
-    let t1 : List ℕ = number_text (codes "{\"format\":1,\"elements\":") c.args.elements in
+    let t1 : List ℕ = number_text (codes "{\"format\":2,\"elements\":") c.args.elements in
     let t2 : List ℕ = number_text (codes ",\"frames\":") c.args.frames in
     let t3 : List ℕ = number_text (codes ",\"first\":") c.args.first in
     let w0 : Option (List ℕ) = g.W.Write.contents c.args.writer.now in

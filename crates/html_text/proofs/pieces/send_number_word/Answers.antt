@@ -1,7 +1,7 @@
 use Rattle.std.proofs.Common.{ℕ, List, Option}
 use Rattle.std.specs.Prelude.{codes}
 use Rattle.std.proofs.lemmas.Result.{err_from_is_err_and}
-use Rattle.html_text.specs.DataText.{number_text, last_word_text}
+use Rattle.html_text.specs.DataText.{number_text, tagged_word}
 use Rattle.sink.proofs.Sent.{sends_from, sends_more, sends_less, sends_other}
 use Rattle.html_text.proofs.pieces.send_number_word.Goals as goal
 
@@ -9,7 +9,7 @@ pub returns-in_err-send_number : goal.returns-in_err-send_number
 returns-in_err-send_number g c =
     let p = err_from_is_err_and c.from_residual.result c.from_residual.ensures.1 in
     let t1 : List ℕ = number_text c.args.tag.now c.args.number in
-    let t2 : List ℕ = last_word_text (codes ",\"") c.args.word in
+    let t2 : List ℕ = tagged_word (codes ":") c.args.word in
     let w0 : Option (List ℕ) = g.W.Write.contents c.args.writer.now in
     let w1 : Option (List ℕ) = g.W.Write.contents c.send_number.new.writer in
     rw p.1 (sends_less p.0 w0 w1 t1 t2 (sends_other c.in_err-send_number.field-0.0 p.0 w0 w1 t1 c.in_err-send_number.ensures))
@@ -17,9 +17,10 @@ returns-in_err-send_number g c =
 pub returns : goal.returns
 returns g c =
     let t1 : List ℕ = number_text c.args.tag.now c.args.number in
-    let t2 : List ℕ = last_word_text (codes ",\"") c.args.word in
+    let t2 : List ℕ = tagged_word (codes ":") c.args.word in
     let w0 : Option (List ℕ) = g.W.Write.contents c.args.writer.now in
     let w1 : Option (List ℕ) = g.W.Write.contents c.send_number.new.writer in
-    let w2 : Option (List ℕ) = g.W.Write.contents c.send_last_word.new.writer in
-    sends_more c.send_last_word.result w0 w1 w2 t1 t2
-    (sends_from c.send_number.result w0 w1 t1 c.in_ok-send_number.was c.send_number.ensures) c.send_last_word.ensures
+    let w2 : Option (List ℕ) = g.W.Write.contents c.send_tagged_word.new.writer in
+    sends_more c.send_tagged_word.result w0 w1 w2 t1 t2
+    (sends_from c.send_number.result w0 w1 t1 c.in_ok-send_number.was c.send_number.ensures)
+    c.send_tagged_word.ensures

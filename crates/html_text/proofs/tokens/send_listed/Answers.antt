@@ -1,25 +1,25 @@
 use Rattle.std.proofs.Common.{ℕ, List, Option, Err}
 use Rattle.std.proofs.lemmas.Result.{err_from_is_err_and}
-use Rattle.html_text.specs.DataText.{comma, token_text}
+use Rattle.html_text.specs.DataText.{semicolon, token_text}
 use Rattle.sink.proofs.Sent.{sends_from, sends_more, sends_less, sends_other, sends_same}
 use Rattle.html_text.proofs.tokens.send_listed.Goals as goal
 
 pub returns-in_err-send : goal.returns-in_err-send
 returns-in_err-send g c =
     let p = err_from_is_err_and c.from_residual.result c.from_residual.ensures.1 in
-    let t1 : List ℕ = comma c.args.place in
+    let t1 : List ℕ = semicolon c.args.place in
     let t2 : List ℕ = token_text c.args.token.now.to c.args.token.now.word in
     let w0 : Option (List ℕ) = g.W.Write.contents c.args.writer.now in
     let w1 : Option (List ℕ) = g.W.Write.contents c.send.new.writer in
     rw p.1 (sends_less p.0 w0 w1 t1 t2 (sends_other c.in_err-send.field-0.0 p.0 w0 w1 t1 (sends_same
-    (Err c.in_err-send.field-0.0) w0 w1 c.comma.result.now t1 c.comma.ensures c.in_err-send.ensures)))
+    (Err c.in_err-send.field-0.0) w0 w1 c.semicolon.result.now t1 c.semicolon.ensures c.in_err-send.ensures)))
 
 pub returns : goal.returns
 returns g c =
-    let t1 : List ℕ = comma c.args.place in
+    let t1 : List ℕ = semicolon c.args.place in
     let t2 : List ℕ = token_text c.args.token.now.to c.args.token.now.word in
     let w0 : Option (List ℕ) = g.W.Write.contents c.args.writer.now in
     let w1 : Option (List ℕ) = g.W.Write.contents c.send.new.writer in
     let w2 : Option (List ℕ) = g.W.Write.contents c.send_token.new.writer in
     sends_more c.send_token.result w0 w1 w2 t1 t2 (sends_from c.send.result w0 w1 t1 c.in_ok-send.was
-    (sends_same c.send.result w0 w1 c.comma.result.now t1 c.comma.ensures c.send.ensures)) c.send_token.ensures
+    (sends_same c.send.result w0 w1 c.semicolon.result.now t1 c.semicolon.ensures c.send.ensures)) c.send_token.ensures

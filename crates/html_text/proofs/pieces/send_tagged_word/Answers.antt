@@ -1,0 +1,25 @@
+use Rattle.std.proofs.Common.{ℕ, List, Option}
+use Rattle.std.proofs.lemmas.Result.{err_from_is_err_and}
+use Rattle.trace_text.specs.TraceText.{word_text}
+use Rattle.sink.proofs.Sent.{sends_from, sends_more, sends_less, sends_other}
+use Rattle.html_text.proofs.pieces.send_tagged_word.Goals as goal
+
+pub returns-in_err-send : goal.returns-in_err-send
+returns-in_err-send g c =
+    let p = err_from_is_err_and c.from_residual.result c.from_residual.ensures.1 in
+    let t1 : List ℕ = c.args.tag.now in
+    let t2 : List ℕ = word_text c.args.word in
+    let w0 : Option (List ℕ) = g.W.Write.contents c.args.writer.now in
+    let w1 : Option (List ℕ) = g.W.Write.contents c.send.new.writer in
+    rw p.1 (sends_less p.0 w0 w1 t1 t2 (sends_other c.in_err-send.field-0.0 p.0 w0 w1 t1 c.in_err-send.ensures))
+
+pub returns : goal.returns
+returns g c =
+    let t1 : List ℕ = c.args.tag.now in
+    let t2 : List ℕ = word_text c.args.word in
+    let w0 : Option (List ℕ) = g.W.Write.contents c.args.writer.now in
+    let w1 : Option (List ℕ) = g.W.Write.contents c.send.new.writer in
+    let w2 : Option (List ℕ) = g.W.Write.contents c.send_word.new.writer in
+    sends_more c.send_word.result w0 w1 w2 t1 t2
+    (sends_from c.send.result w0 w1 t1 c.in_ok-send.was c.send.ensures)
+    c.send_word.ensures
