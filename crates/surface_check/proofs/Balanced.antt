@@ -1,5 +1,5 @@
 -- The words of an expression are balanced: they leave open what was open, and end no item.
-use Rattle.std.specs.Prelude.{◌≡◌, refl, ℕ, suc, ◌+◌, ◌-◌, ◌≤◌, ◌==◌, ◌||◌, Bool, true, false, ℤ, pos, List, [], ◌∷◌, ◌++◌, map, None, Some, Option}
+use Rattle.std.specs.Prelude.{◌≡◌, refl, ℕ, suc, ◌+◌, ◌-◌, ◌≤◌, ◌==◌, ◌||◌, ◌&&◌, not, Bool, true, false, ℤ, pos, List, [], ◌∷◌, ◌++◌, map, None, Some, Option}
 use Rattle.std.specs.Prelude.{Result, Ok, if◌then◌else◌}
 use Rattle.std.specs.List.{list_any}
 use Rattle.std.proofs.Common.{◌∙◌, ap, sym, subst, arith, append_assoc}
@@ -18,16 +18,23 @@ use Rattle.surface.specs.Words.{Words, of_core, target_word, start_words, bound_
 use Rattle.surface.specs.Words.{body_words, tests_words, turn_words, carried_words}
 use Rattle.surface_check.specs.Evaluates.{Evaluation, part_at, evaluates, evaluate, infixed, list_begins, list_ends, part_ends, word_ahead, strict_ahead}
 use Rattle.surface_check.specs.Heads.{ends_item}
+use Rattle.surface_check.specs.Steps.{ends_measure}
 
 -- what is open
 abbrev pub outline : Evaluation → Evaluation
 outline c = record c { last = part_at 0 (Ok (pos 0)); number = None }
+
+-- whether some call ends the outermost list
+abbrev pub ends_outer : (ℕ → Name → Result ℤ Fault) → Evaluation → Words → Bool
+ends_outer k c [] = false
+ends_outer k c (w ∷ ws) = (ends_measure w && c.depth == 1) || ends_outer k (evaluates k c w) ws
 
 -- At least n lists are open before.
 pub record Balanced (n : ℕ) (ws : Words) : Type 0 where
   pub still : (k : ℕ → Name → Result ℤ Fault) (c : Evaluation) → n ≤ c.depth → outline (evaluate k c ws) ≡ outline c
   pub ahead : (rest : Words) (d : ℕ) → strict_ahead (ws ++ rest) d ≡ strict_ahead rest d
   pub inner : list_any ends_item ws ≡ false
+  pub inside : (k : ℕ → Name → Result ℤ Fault) (c : Evaluation) → n ≤ c.depth → ends_outer k c ws ≡ false
 
 pub evaluate_append : (k : ℕ → Name → Result ℤ Fault) (ws vs : Words) (c : Evaluation) → evaluate k c (ws ++ vs) ≡ evaluate k (evaluate k c ws) vs
 evaluate_append k [] vs c = refl
@@ -45,12 +52,36 @@ none_of_both (w ∷ ws) vs h k = go (ends_item w) h (λ e. none_of_both ws vs e 
 none_of_one : (b : Bool) → b ≡ false → (b || false) ≡ false
 none_of_one b e = rw e refl
 
+pub none_outer : (k : ℕ → Name → Result ℤ Fault) (ws vs : Words) (c : Evaluation) → ends_outer k c ws ≡ false → ends_outer k (evaluate k c ws) vs ≡ false
+    → ends_outer k c (ws ++ vs) ≡ false
+none_outer k [] vs c h j = j
+none_outer k (w ∷ ws) vs c h j = go (ends_measure w && c.depth == 1) h (λ e. none_outer k ws vs (evaluates k c w) e j)
+  where
+    go : (b : Bool) → (b || ends_outer k (evaluates k c w) ws) ≡ false
+        → (ends_outer k (evaluates k c w) ws ≡ false → ends_outer k (evaluates k c w) (ws ++ vs) ≡ false)
+        → (b || ends_outer k (evaluates k c w) (ws ++ vs)) ≡ false
+    go true e later = e
+    go false e later = later e
+
+different : (b : Bool) → b ≡ not b → ⊥
+different true e = cc
+different false e = cc
+
+-- a word that is passed over by who looks ahead is no call
+no_call : (w : Word Name) → ((later : ℕ → Bool) (d : ℕ) → word_ahead w d later ≡ later d) → ends_measure w ≡ false
+no_call (word.Core (core_word.Call at strict f)) h = absurd (different strict (h (λ n. not strict) 0))
+no_call w h = refl
+
+silent : (w : Word Name) → ends_measure w ≡ false → (k : ℕ → Name → Result ℤ Fault) (c : Evaluation) → ends_outer k c (w ∷ []) ≡ false
+silent w e k c = rw e refl
+
 pub one : (n : ℕ) (w : Word Name) → ((k : ℕ → Name → Result ℤ Fault) (c : Evaluation) → outline (evaluates k c w) ≡ outline c)
     → ((later : ℕ → Bool) (d : ℕ) → word_ahead w d later ≡ later d) → ends_item w ≡ false → Balanced n (w ∷ [])
 one n w s a i = record {
   still = λ k c d. s k c;
   ahead = λ rest d. a (strict_ahead rest) d;
   inner = none_of_one (ends_item w) i;
+  inside = λ k c d. silent w (no_call w a) k c;
 }
 
 same_depth : (c e : Evaluation) → outline c ≡ outline e → c.depth ≡ e.depth
@@ -65,10 +96,11 @@ joined {n} {ws} {vs} a b = record {
       ∙ b.still k (evaluate k c ws) (as_deep n (evaluate k c ws) c (a.still k c d) d) ∙ a.still k c d;
   ahead = λ rest d. ap (λ us. strict_ahead us d) (append_assoc ws vs rest) ∙ a.ahead (vs ++ rest) d ∙ b.ahead rest d;
   inner = none_of_both ws vs a.inner b.inner;
+  inside = λ k c d. none_outer k ws vs c (a.inside k c d) (b.inside k (evaluate k c ws) (as_deep n (evaluate k c ws) c (a.still k c d) d));
 }
 
 pub lifted : {ws : Words} → Balanced 1 ws → Balanced 2 ws
-lifted {ws} a = record { still = λ k c d. a.still k c (omega (arith, d)); ahead = a.ahead; inner = a.inner }
+lifted {ws} a = record { still = λ k c d. a.still k c (omega (arith, d)); ahead = a.ahead; inner = a.inner; inside = λ k c d. a.inside k c (omega (arith, d)) }
 
 not_one : (n : ℕ) → 2 ≤ n → (n == 1) ≡ false
 not_one n h = go (n == 1) refl
@@ -81,7 +113,7 @@ part_still : (c : Evaluation) → 2 ≤ c.depth → outline (part_ends c) ≡ ou
 part_still c h = rw (not_one c.depth h) refl
 
 pub one_part : Balanced 2 (of_core core_word.Part ∷ [])
-one_part = record { still = λ k c d. part_still c d; ahead = λ rest d. refl; inner = refl }
+one_part = record { still = λ k c d. part_still c d; ahead = λ rest d. refl; inner = refl; inside = λ k c d. refl }
 
 up_and_down : (n : ℕ) → (n + 1) - 1 ≡ n
 up_and_down n = omega arith
@@ -106,6 +138,7 @@ listed {ws} w s a i b = record {
   still = λ k c d. list_still ws w b s k c d;
   ahead = λ rest d. ap (λ us. strict_ahead us d) (append_assoc ws (w ∷ []) rest) ∙ b.ahead (w ∷ rest) d ∙ a (strict_ahead rest) d;
   inner = none_of_both ws (w ∷ []) b.inner (none_of_one (ends_item w) i);
+  inside = λ k c d. none_outer k ws (w ∷ []) (list_begins c) (b.inside k (list_begins c) (deeper c d)) (silent w (no_call w a) k (evaluate k (list_begins c) ws));
 }
 
 pub called : {ws : Words} (at : ℕ) (f : Name) (strict : Bool) → Balanced 2 ws
@@ -115,6 +148,9 @@ called {ws} at f strict b = record {
   ahead = λ rest d. ap (λ us. strict_ahead us (suc d)) (append_assoc ws (of_core (core_word.Call at strict f) ∷ []) rest)
       ∙ b.ahead (of_core (core_word.Call at strict f) ∷ rest) (suc d);
   inner = none_of_both ws (of_core (core_word.Call at strict f) ∷ []) b.inner refl;
+  inside = λ k c d. none_outer k ws (of_core (core_word.Call at strict f) ∷ []) (list_begins c) (b.inside k (list_begins c) (deeper c d)) (none_of_one
+      ((evaluate k (list_begins c) ws).depth == 1) (not_one (evaluate k (list_begins c) ws).depth (as_deep 2 (evaluate k (list_begins c) ws) (list_begins c) (b.still
+      k (list_begins c) (deeper c d)) (deeper c d))));
 }
 
 -- an operator on two parts
@@ -147,18 +183,20 @@ operator {ls} {rs} at sign a b = record {
       ∙ a.ahead (of_core core_word.Left ∷ (rs ++ of_core (core_word.Infix at sign) ∷ rest)) d ∙ b.ahead (of_core (core_word.Infix at sign) ∷ rest) d;
   inner = none_of_both (ls ++ of_core core_word.Left ∷ rs) (of_core (core_word.Infix at sign) ∷ []) (none_of_both ls (of_core core_word.Left ∷ rs) a.inner
       b.inner) refl;
+  inside = λ k c d. none_outer k (ls ++ of_core core_word.Left ∷ rs) (of_core (core_word.Infix at sign) ∷ []) c (none_outer k ls (of_core core_word.Left ∷ rs) c
+      (a.inside k c d) (b.inside k (open_left (evaluate k c ls)) (as_deep 1 (evaluate k c ls) c (a.still k c d) d))) refl;
 }
 
 turned_to : {n : ℕ} {ws vs : Words} → ws ≡ vs → Balanced n ws → Balanced n vs
 turned_to {n} {ws} {vs} e b = subst (λ us. Balanced n us) e b
 
 targets_balanced : (targets : List Target) → Balanced 1 (map target_word targets)
-targets_balanced [] = record { still = λ k c d. refl; ahead = λ rest d. refl; inner = refl }
+targets_balanced [] = record { still = λ k c d. refl; ahead = λ rest d. refl; inner = refl; inside = λ k c d. refl }
 targets_balanced (Bind x ∷ targets) = joined (one 1 (of_core (core_word.Bind x.at x.name)) (λ k c. refl) (λ later d. refl) refl) (targets_balanced targets)
 targets_balanced (Drop ∷ targets) = joined (one 1 (of_core core_word.Drop) (λ k c. refl) (λ later d. refl) refl) (targets_balanced targets)
 
 start_balanced : (xs : List NameAt) → Balanced 1 (start_words xs)
-start_balanced [] = record { still = λ k c d. refl; ahead = λ rest d. refl; inner = refl }
+start_balanced [] = record { still = λ k c d. refl; ahead = λ rest d. refl; inner = refl; inside = λ k c d. refl }
 start_balanced (x ∷ xs) = (one 1 (of_core (core_word.Start x.at x.name)) (λ k c. refl) (λ later d. refl) refl)
 
 bound_balanced : (bound : Count) → Balanced 1 (bound_word bound ∷ [])
@@ -166,7 +204,7 @@ bound_balanced (Written at n) = (one 1 (of_core (core_word.Bound at n)) (λ k c.
 bound_balanced (Constant at x) = (one 1 (word.ConstantBound at x) (λ k c. refl) (λ later d. refl) refl)
 
 bounds_balanced : (bound : Option Count) → Balanced 1 (bound_words bound)
-bounds_balanced None = record { still = λ k c d. refl; ahead = λ rest d. refl; inner = refl }
+bounds_balanced None = record { still = λ k c d. refl; ahead = λ rest d. refl; inner = refl; inside = λ k c d. refl }
 bounds_balanced (Some bound) = bound_balanced bound
 
 end_balanced : (at : ℕ) (bound : Count) → Balanced 1 (end_loop at bound ∷ [])
@@ -229,5 +267,5 @@ mutual
   turn_balanced (After xs b q) = joined (joined (one 1 (of_core core_word.BodyFirst) (λ k c. refl) (λ later d. refl) refl) (body_balanced b)) (joined (one 1 (of_core core_word.Until) (λ k c. refl) (λ later d. refl) refl) (balanced q))
 
   carried_balanced : (carried : Carried) → Balanced 1 (carried_words carried)
-  carried_balanced Nothing = record { still = λ k c d. refl; ahead = λ rest d. refl; inner = refl }
+  carried_balanced Nothing = record { still = λ k c d. refl; ahead = λ rest d. refl; inner = refl; inside = λ k c d. refl }
   carried_balanced (With xs firsts) = firsts_balanced xs firsts

@@ -11,6 +11,7 @@ use Rattle.surface.specs.Known.{Known, nothing, lookup}
 use Rattle.surface.specs.Rules.{heads}
 use Rattle.surface_check.specs.declared.entry.Entry.{Entry}
 use Rattle.surface_check.specs.declared.heads.Head.TheVariants as open_head
+use Rattle.surface_check.specs.Checks.{AsKnown, HeadsAreRead}
 use Rattle.surface_check.specs.Heads.{Heads, no_heads, heads_read}
 use Rattle.surface_check.specs.Pins.{constant_in, array_in, signature_in}
 use Rattle.surface_check.specs.Renamed.{numbers_in, renamed}
@@ -107,3 +108,12 @@ pub refused_when : (names : List Name) (ws : List (Word ℕ)) (r : Result TableV
     → IfErr r (λ f. (f ≡ out_of_memory) ⊎ (heads nothing p ≡ Err f))
 refused_when names ws (Ok t) h p i = tt
 refused_when names ws (Err f) h p i = first_fault names names ws ws f refl refl h p i
+
+as_known : (r : Result (Heads Name) Fault) (q : Result Known Fault) → ReadAs r q → AsKnown r q
+as_known (Ok h) (Ok known) a = a.0.pins
+as_known (Err f) (Err g) a = a
+as_known (Ok h) (Err g) a = absurd a
+as_known (Err f) (Ok known) a = absurd a
+
+pub read_as_known : HeadsAreRead
+read_as_known p f = as_known (heads_read by_bytes no_heads (program_words p)) (heads nothing p) (heads_are_read p f)

@@ -12,3 +12,7 @@ pub mod OverBodies
 pub mod OverNames
 pub mod OverLets
 pub mod OverNoted
+pub mod Callees
+pub mod OverArguments
+pub mod OverWholeCalls
+pub mod OverMeasured

@@ -23,7 +23,7 @@ use Rattle.surface_check.proofs.Balanced.{parts_balanced}
 use Rattle.surface_check.proofs.Over.{Setting, IsDeep, around, runs, notes, having, then_equal, bind_assoc, tested}
 use Rattle.surface_check.proofs.OverLists.{OverList, frame_deep}
 
-callee_as : (strict : Bool) (f : Name) (o : Option Signature) → callee_in strict (built_in f) o ≡ callee_of strict f o
+pub callee_as : (strict : Bool) (f : Name) (o : Option Signature) → callee_in strict (built_in f) o ≡ callee_of strict f o
 callee_as true f (Some s) = refl
 callee_as false f (Some s) = refl
 callee_as true f None = refl

@@ -1,7 +1,11 @@
 -- Places of a table.
-use Rattle.std.specs.Prelude.{suc, ◌-◌, ◌∷◌, ℤ, pos, ◌*ℤ◌, ◌^◌, Result, ◌≡◌, refl, ℕ, ◌<◌, ◌==◌, ◌↔◌, IsTrue, [], Bool, true, false, List, length, slice_index_or, slice_set, Option, None, Some, if◌then◌else◌}
+use Rattle.std.specs.Prelude.{suc, negsuc, ◌≤◌, ◌*◌, ◌-◌, ◌∷◌, ℤ, pos, ◌*ℤ◌, ◌^◌, Result, ◌≡◌, refl, ℕ, ◌<◌, ◌==◌, ◌↔◌, IsTrue, [], Bool, true, false, List, length, slice_index_or, slice_set, Option, None, Some, if◌then◌else◌}
 use Rattle.std.proofs.Common.{◌∙◌, ap, arith, sym, subst}
 use Rattle.std.proofs.lemmas.Bool.{eqb-true, eqb-false}
+use Rattle.std.proofs.lemmas.Int.{to_z-of_z, fits_signed_from_abs, fits_signed_mul}
+use Rattle.std.specs.Int.RustNames.{FitsSigned, unsigned_abs}
+use mir.Syntax.{w64, w128}
+use mir.Val.{to_z, of_z}
 use Rattle.std.proofs.lemmas.List.{get_or-set_same, get_or-set_other}
 use Rattle.semantics.specs.Graph.{same_name}
 use Rattle.semantics.proofs.Lines.{same_name_is, same_name_itself}
@@ -39,8 +43,18 @@ pub shifts_by : (at : ℕ) (x y : ℤ) (n : ℕ) (r : Result ℤ Fault) → is_s
 shifts_by at x y n r h e f = f ∙ sym (subst (λ (z : ℤ). directly at binary.Shl x z ≡ in_64_bits at (x *ℤ pos (2 ^ n))) (sym e) (rw (subst (λ (z : ℤ). is_shift z
     ≡ true) e h) refl))
 
-pub multiplies : (at : ℕ) (x y : ℤ) (r : Result ℤ Fault) → r ≡ in_64_bits at (x *ℤ y) → r ≡ directly at binary.Mul x y
-multiplies at x y r f = f
+abs-le : (z : ℤ) → FitsSigned w64 z → unsigned_abs z ≤ 9223372036854775808
+abs-le (pos n) f = omega (arith, f.sfits)
+abs-le (negsuc n) f = omega (arith, f.sfits)
+
+-- a number of 64 bits that is widened
+widened : (z : ℤ) → FitsSigned w64 z → to_z w128 (of_z w128 (to_z w64 (of_z w64 z))) ≡ z
+widened z f = ap (λ (y : ℤ). to_z w128 (of_z w128 y)) (to_z-of_z w64 z f) ∙ to_z-of_z w128 z (fits_signed_from_abs w128 z (omega (arith, abs-le z f)))
+
+pub product_back : (x y : ℤ) → FitsSigned w64 x → FitsSigned w64 y
+    → to_z w128 (of_z w128 (to_z w128 (of_z w128 (to_z w64 (of_z w64 x))) *ℤ to_z w128 (of_z w128 (to_z w64 (of_z w64 y))))) ≡ x *ℤ y
+product_back x y p q = (λ i. to_z w128 (of_z w128 (widened x p i *ℤ widened y q i)))
+    ∙ to_z-of_z w128 (x *ℤ y) (fits_signed_mul w128 x y 9223372036854775808 9223372036854775808 (abs-le x p) (abs-le y q) (omega arith))
 
 one_less : (n : ℕ) → suc (suc n) - 1 ≡ suc n
 one_less n = omega arith

@@ -1,5 +1,5 @@
 -- WHAT A CHECK OF WORDS ANSWERS: nothing, or the first fault. First the heads, then `main`, then the functions.
-use Rattle.std.specs.Prelude.{◌≡◌, ℕ, Bool, true, false, List, Option, None, Some, Result, Ok, ⊤}
+use Rattle.std.specs.Prelude.{◌≡◌, ℕ, Bool, true, false, List, Option, None, Some, Result, Ok, Err, ⊤}
 use Rattle.semantics.specs.Graph.{same_name}
 use Rattle.source.specs.declared.fault.FaultKind.TheVariants.{NoMain}
 use Rattle.source.specs.Tree.{Name}
@@ -10,11 +10,12 @@ use Rattle.surface.specs.Tree.{Program}
 use Rattle.surface.specs.Fits.{FitsProgram}
 use Rattle.surface.specs.Words.{program_words, IsProgram}
 use Rattle.surface.specs.First.{◌>>=◌, must_be}
-use Rattle.surface.specs.Known.{built_in}
-use Rattle.surface.specs.Rules.{checked}
+use Rattle.surface.specs.Known.{Known, nothing, built_in}
+use Rattle.surface.specs.Rules.{heads, checked}
 use Rattle.surface_check.specs.declared.entry.Entry.{Entry}
 use Rattle.surface_check.specs.declared.entry.Entry.TheVariants as entry
-use Rattle.surface_check.specs.Heads.{Names, no_heads, heads_read}
+use Rattle.surface_check.specs.Heads.{Names, Heads, no_heads, heads_read}
+use Rattle.surface_check.specs.Pins.{Pins}
 use Rattle.surface_check.specs.Steps.{Plain, begun, steps}
 
 abbrev pub is_function : Option Entry → Bool
@@ -36,6 +37,15 @@ pub record IsChecked (names : List Name) (ws : List (Word ℕ)) : Type 0 where
 -- names by their bytes
 abbrev pub by_bytes : Names Name
 by_bytes = record { same = same_name; is_main = λ f. same_name f main_name; built_in = built_in }
+
+-- WHAT IS READ OF HEADS is what the rules know of the items.
+abbrev pub AsKnown : Result (Heads Name) Fault → Result Known Fault → Type 0
+AsKnown (Ok h) (Ok known) = Pins h.item h.ranks known
+AsKnown (Err f) (Err g) = f ≡ g
+AsKnown r q = ⊥
+
+abbrev pub HeadsAreRead : Type 0
+HeadsAreRead = (p : Program) → FitsProgram p → AsKnown (heads_read by_bytes no_heads (program_words p)) (heads nothing p)
 
 -- WHAT THE STEPS ANSWER is what the rules say.
 abbrev pub WordsAreChecked : Type 0

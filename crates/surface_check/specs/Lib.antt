@@ -5,4 +5,4 @@ pub mod Steps
 pub mod Renamed
 pub mod Table
 pub mod Checks
-pub mod Probe
+pub mod Callees

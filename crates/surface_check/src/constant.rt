@@ -56,7 +56,6 @@ fn quotient(at: usize, x: i64, y: i64) -> Result<i64, Fault>
     integer(at, apply2(Binary::Div, Value::Int(x), Value::Int(y)))
 }
 
-#[tactic(auto, using(crate::proofs::Places::multiplies))]
 fn multiplied(at: usize, x: i64, y: i64) -> Result<i64, Fault>
     ensures { result ≡ constants.directly at binary.Mul x y }
 {

@@ -10,6 +10,7 @@ ghost use Rattle.surface.specs.Rules as rules;
 ghost use Rattle.surface.specs.Tree as tree;
 ghost use Rattle.surface.specs.Words.{IsProgram};
 ghost use Rattle.surface_check.specs.declared.heads.Head.TheVariants as open_head;
+ghost use Rattle.surface_check.specs.Checks.{HeadsAreRead};
 ghost use Rattle.surface_check.specs.Heads as heads;
 ghost use Rattle.surface_check.specs.Renamed.{numbers_in, by_number};
 ghost use Rattle.surface_check.specs.Table as table;
@@ -515,3 +516,9 @@ pub fn read_heads<'a, A: Allocator + Clone>(
 {
     read(alloc, names, words)
 }
+
+/// Read word by word, the heads of the items are those that the rules know, with the same first fault.
+#[tactic(auto, using(crate::proofs::KnownHeads::read_as_known))]
+pub fn heads_are_read()
+    ensures { HeadsAreRead }
+{}

@@ -2,10 +2,10 @@
 //! returned.
 #![tactic(auto)]
 
+pub mod callee;
 mod constant;
 pub mod entry;
 pub mod evaluation;
 pub mod frame;
 pub mod heads;
-mod probe;
 pub mod table;
