@@ -1,6 +1,6 @@
 -- The words of an expression are balanced: they leave open what was open, and end no item.
 use Rattle.std.specs.Prelude.{◌≡◌, refl, ℕ, suc, ◌+◌, ◌-◌, ◌≤◌, ◌==◌, ◌||◌, ◌&&◌, not, Bool, true, false, ℤ, pos, List, [], ◌∷◌, ◌++◌, map, None, Some, Option}
-use Rattle.std.specs.Prelude.{Result, Ok, if◌then◌else◌}
+use Rattle.std.specs.Prelude.{Result, Ok}
 use Rattle.std.specs.List.{list_any}
 use Rattle.std.proofs.Common.{◌∙◌, ap, sym, subst, arith, append_assoc}
 use Rattle.std.proofs.lemmas.Bool.{eqb-true}

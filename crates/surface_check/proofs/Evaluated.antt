@@ -1,5 +1,5 @@
 -- Constants are evaluated as the definition says.
-use Rattle.std.specs.Prelude.{◌≡◌, refl, ℕ, ◌≤◌, ◌⊎◌, nat_le, Bool, true, false, ℤ, pos, List, [], ◌∷◌, ◌++◌, Option, None, Some, Result, Ok, if◌then◌else◌}
+use Rattle.std.specs.Prelude.{◌≡◌, refl, ℕ, ◌≤◌, ◌⊎◌, ℤ, pos, List, [], ◌∷◌, ◌++◌, Option, None, Some, Result, Ok}
 use Rattle.std.proofs.Common.{◌∙◌, ap, sym, arith, append_assoc, inl, inr}
 use Rattle.std.proofs.lemmas.Bool.{le-leb}
 use Rattle.operators.specs.declared.Unary.{Unary}

@@ -1,5 +1,5 @@
 -- The heads that are read word by word are those of the rules.
-use Rattle.std.specs.Prelude.{◌≡◌, refl, ℕ, zero, suc, ◌+◌, ◌-◌, ◌*◌, ◌≤◌, ◌&&◌, ◌||◌, not, nat_le, nat_lt, Bool, true, false, ℤ, pos, List, [], ◌∷◌, ◌++◌}
+use Rattle.std.specs.Prelude.{◌≡◌, refl, ℕ, zero, suc, ◌+◌, ◌-◌, ◌*◌, ◌≤◌, ◌||◌, not, nat_le, nat_lt, Bool, true, false, ℤ, List, [], ◌∷◌, ◌++◌}
 use Rattle.std.specs.Prelude.{length, map, take, drop, is_some, Option, None, Some, Result, Ok, Err, ⊤, if◌then◌else◌}
 use Rattle.std.specs.List.{list_any}
 use Rattle.std.proofs.Common.{◌∙◌, ap, sym, subst, arith, append_assoc, append-nil}
@@ -22,8 +22,8 @@ use Rattle.surface.specs.Tree.{Count, Written, Constant, Expr, Exprs, One, More,
 use Rattle.surface.specs.Fits.{count, Fits, FitsAll, FitsItem, FitsProgram}
 use Rattle.surface.specs.Words.{Words, of_core, words, part_words, body_words, ranked_word, param_word, result_words, item_words, program_words}
 use Rattle.surface.specs.First.{◌>>=◌, must, must_be}
-use Rattle.surface.specs.Known.{Known, Signature, nothing, lookup, product, some_value, built_in}
-use Rattle.surface.specs.Constants.{constant_named, constant_or, constant}
+use Rattle.surface.specs.Known.{Known, nothing, lookup, product, some_value, built_in}
+use Rattle.surface.specs.Constants.{constant_named, constant}
 use Rattle.surface.specs.Rules.{few_params, good_params, ranks, results_of, length_of, lengths_of, last_place, head, heads}
 use Rattle.surface_check.specs.declared.entry.Entry.{Entry}
 use Rattle.surface_check.specs.declared.entry.Entry.TheVariants as entry
@@ -35,8 +35,8 @@ use Rattle.surface_check.specs.Evaluates.{Evaluation, fresh, evaluates, evaluate
 use Rattle.surface_check.specs.Heads.{Names, Heads, no_heads, with_item, ends_item, step_in, heads_read, lengths_from, last_part, shape, lengths_in, array_ends}
 use Rattle.surface_check.specs.Heads.{is_good_rank, first_refused, parameter, number_of_results, unless_refused, head_ends}
 use Rattle.surface_check.specs.Pins.{constant_in, array_in, signature_in, Pins}
-use Rattle.surface_check.proofs.Balanced.{Balanced, balanced, parts_balanced, body_balanced}
-use Rattle.surface_check.proofs.Evaluated.{raw, numbered, settled, evaluated_to, parts_of, parts_are}
+use Rattle.surface_check.proofs.Balanced.{balanced, parts_balanced, body_balanced}
+use Rattle.surface_check.proofs.Evaluated.{settled, evaluated_to, parts_of, parts_are}
 
 -- names by their bytes
 abbrev pub by_bytes : Names Name

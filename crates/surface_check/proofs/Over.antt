@@ -1,6 +1,6 @@
 -- What the steps leave of the words of an expression.
-use Rattle.std.specs.Prelude.{◌≡◌, refl, ℕ, ◌+◌, ◌==◌, ◌≤◌, ◌||◌, ◌&&◌, Bool, true, false, ℤ, List, [], ◌∷◌, ◌++◌, length, map, is_some, Option, None, Some}
-use Rattle.std.specs.Prelude.{Result, Ok, Err, ⊤, if◌then◌else◌}
+use Rattle.std.specs.Prelude.{◌≡◌, refl, ℕ, ◌==◌, ◌≤◌, ◌||◌, ◌&&◌, Bool, true, false, ℤ, List, [], ◌∷◌, ◌++◌, length, is_some, Option, None, Some}
+use Rattle.std.specs.Prelude.{Result, Ok, Err, if◌then◌else◌}
 use Rattle.std.specs.List.{list_any}
 use Rattle.std.proofs.Common.{◌∙◌, ap, sym, arith, append_assoc}
 use Rattle.source.specs.declared.fault.FaultKind.{FaultKind as CoreKind}
@@ -14,23 +14,22 @@ use Rattle.source.specs.Outside.{is_in}
 use Rattle.surface.specs.declared.fault.Fault.{Fault}
 use Rattle.surface.specs.declared.word.Word.{Word}
 use Rattle.surface.specs.declared.word.Word.TheVariants as word
-use Rattle.surface.specs.Tree.{Expr, Number, Named, Bracket, Prefix, Infix, And, Or, Not, Fetch, Store, Exprs, One, More}
-use Rattle.surface.specs.Words.{Words, of_core, words, index_words}
-use Rattle.surface.specs.Outside.{uses, list_uses}
+use Rattle.surface.specs.Tree.{Expr, Number, Named, Bracket, Prefix, Infix, And, Or, Not}
+use Rattle.surface.specs.Words.{Words, of_core, words}
+use Rattle.surface.specs.Outside.{uses}
 use Rattle.surface.specs.First.{◌>>=◌, must_be}
 use Rattle.surface.specs.Known.{Known, lookup}
 use Rattle.surface.specs.Constants.{place_of}
-use Rattle.surface.specs.Rules.{Around, rank_in, rank_of, is_constant, argument_rank, one_value, known_array, values, index_values}
+use Rattle.surface.specs.Rules.{Around, rank_in, rank_of, is_constant, argument_rank, one_value, values}
 use Rattle.source_check.specs.Steps.{since}
 use Rattle.surface_check.specs.declared.entry.Entry.{Entry}
 use Rattle.surface_check.specs.declared.entry.Entry.TheVariants as entry
 use Rattle.surface_check.specs.declared.frame.Kind.{Kind}
 use Rattle.surface_check.specs.declared.frame.Kind.TheVariants as kind
 use Rattle.surface_check.specs.declared.frame.Frame.{Frame}
-use Rattle.surface_check.specs.declared.frame.Frame.TheVariants as frame
 use Rattle.surface_check.specs.Pins.{constant_in, array_in, Pins}
-use Rattle.surface_check.specs.Steps.{Items, Open, State, Plain, lookup_by, top, pushed, rank_at, is_constant_entry, no_value, noted, all_noted, argument}
-use Rattle.surface_check.specs.Steps.{named, is_part, part_next, passes, name_read, bracketed, prefixed, operated, one_taken, cell, steps}
+use Rattle.surface_check.specs.Steps.{Items, Open, State, Plain, lookup_by, top, rank_at, is_constant_entry, no_value, noted, all_noted, argument}
+use Rattle.surface_check.specs.Steps.{named, is_part, part_next, passes, bracketed, prefixed, operated, one_taken, steps}
 use Rattle.surface_check.proofs.HeadsRead.{by_bytes}
 
 -- the items, and what is known of them

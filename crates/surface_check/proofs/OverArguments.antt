@@ -1,6 +1,6 @@
 -- Arguments of a function with parameters for arrays.
-use Rattle.std.specs.Prelude.{◌≡◌, refl, ℕ, ◌||◌, ◌&&◌, Bool, true, false, List, [], ◌∷◌, ◌++◌, length, replicate, take, drop, is_some, Option, None, Some}
-use Rattle.std.specs.Prelude.{Result, Ok, Err, if◌then◌else◌}
+use Rattle.std.specs.Prelude.{◌≡◌, refl, ℕ, ◌||◌, Bool, true, false, List, [], ◌∷◌, ◌++◌, length, replicate, take, is_some, Option, None, Some}
+use Rattle.std.specs.Prelude.{Result, Ok}
 use Rattle.std.proofs.Common.{◌∙◌, ap, sym, append_assoc, append-nil}
 use Rattle.std.proofs.Math.Seq.{take-append_seam, drop-append_seam}
 use Rattle.source.specs.declared.fault.FaultKind.TheVariants.{Arity}
@@ -8,13 +8,11 @@ use Rattle.source.specs.declared.word.Word.TheVariants as core_word
 use Rattle.source.specs.Tree.{Name}
 use Rattle.source.specs.Outside.{is_in}
 use Rattle.surface.specs.declared.fault.Fault.{Fault}
-use Rattle.surface.specs.declared.word.Word.{Word}
 use Rattle.surface.specs.Tree.{Expr, Named, Exprs, One, More}
 use Rattle.surface.specs.Words.{Words, of_core, words, part_words}
 use Rattle.surface.specs.Outside.{uses, list_uses}
 use Rattle.surface.specs.First.{◌>>=◌, must_be}
 use Rattle.surface.specs.Known.{Signature, lookup}
-use Rattle.surface.specs.Constants.{place_of}
 use Rattle.surface.specs.Rules.{Around, rank_in, rank_of, argument_rank, same_ranks, values, argument_ranks}
 use Rattle.source_check.specs.Steps.{since}
 use Rattle.surface_check.specs.declared.entry.Entry.{Entry}

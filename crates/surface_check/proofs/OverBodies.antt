@@ -1,31 +1,29 @@
 -- Bodies, statements and conditionals.
-use Rattle.std.specs.Prelude.{◌≡◌, refl, ℕ, suc, ◌+◌, ◌==◌, ◌≤◌, not, ◌&&◌, Bool, true, false, List, [], ◌∷◌, ◌++◌, length, map, is_some, Option, None, Some, Result}
-use Rattle.std.specs.Prelude.{Ok, Err, ⊤}
+use Rattle.std.specs.Prelude.{◌≡◌, refl, ℕ, ◌+◌, ◌==◌, ◌≤◌, List, [], ◌∷◌, ◌++◌, length, Result}
+use Rattle.std.specs.Prelude.{Ok, ⊤}
 use Rattle.std.proofs.Common.{◌∙◌, ap, sym, arith, append_assoc}
 use Rattle.std.proofs.lemmas.List.{length-append}
-use Rattle.source.specs.declared.fault.FaultKind.TheVariants.{SameName, Arity}
+use Rattle.source.specs.declared.fault.FaultKind.TheVariants.{Arity}
 use Rattle.source.specs.declared.word.Word.TheVariants as core_word
-use Rattle.source.specs.Tree.{Name, NameAt, Target, Bind, Drop}
-use Rattle.source.specs.Outside.{is_in, without, bound_by}
+use Rattle.source.specs.Tree.{Name}
+use Rattle.source.specs.Outside.{bound_by}
 use Rattle.surface.specs.declared.fault.Fault.{Fault}
-use Rattle.surface.specs.declared.word.Word.{Word}
 use Rattle.surface.specs.declared.word.Word.TheVariants as word
 use Rattle.surface.specs.Tree.{Expr, If, Exprs, Body, Let, Do, When, Give, Chain, Tests, Last, Else}
-use Rattle.surface.specs.Words.{Words, of_core, target_word, words, part_words, body_words, tests_words}
+use Rattle.surface.specs.Words.{Words, of_core, words, part_words, body_words, tests_words}
 use Rattle.surface.specs.Outside.{uses, list_uses, body_uses, tests_uses}
 use Rattle.surface.specs.First.{◌>>=◌, must_be}
-use Rattle.surface.specs.Known.{lookup}
 use Rattle.surface.specs.Constants.{place_of}
-use Rattle.surface.specs.Rules.{new_name, new_targets, one_value, values, list_values, body_values, tests_values}
-use Rattle.source_check.specs.Steps.{since, back, onto}
-use Rattle.source_check.proofs.Stacks.{since-append, back-append, back-deeper, back-itself, onto-onto}
+use Rattle.surface.specs.Rules.{one_value, values, list_values, body_values, tests_values}
+use Rattle.source_check.specs.Steps.{back}
+use Rattle.source_check.proofs.Stacks.{back-deeper, back-itself}
 use Rattle.surface_check.specs.declared.frame.Kind.TheVariants as kind
 use Rattle.surface_check.specs.declared.frame.Frame.{Frame}
 use Rattle.surface_check.specs.declared.frame.Frame.TheVariants as frame
-use Rattle.surface_check.specs.Steps.{Open, State, Plain, popped, pushed, ended, taken, is_new, bound, end_if, end_when, stands, lookup_by, steps}
+use Rattle.surface_check.specs.Steps.{Open, State, Plain, pushed, steps}
 use Rattle.surface_check.proofs.HeadsRead.{by_bytes}
-use Rattle.surface_check.proofs.Over.{Setting, IsDeep, around, runs, notes, having, kind_of, Over, still_deep, notes_both, then_equal, bind_assoc, tested}
-use Rattle.surface_check.proofs.Over.{tested_then, lookup_is}
+use Rattle.surface_check.proofs.Over.{Setting, IsDeep, around, runs, notes, having, Over, still_deep, notes_both, then_equal, bind_assoc, tested}
+use Rattle.surface_check.proofs.Over.{tested_then}
 use Rattle.surface_check.proofs.OverLists.{OverList, frame_deep}
 
 abbrev pub left_scope : Body → List Name → List Name

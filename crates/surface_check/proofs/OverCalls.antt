@@ -1,23 +1,22 @@
 -- Calls.
-use Rattle.std.specs.Prelude.{◌≡◌, refl, ℕ, suc, ◌+◌, ◌==◌, ◌&&◌, ◌≤◌, Bool, true, false, ℤ, pos, int_le, int_lt, List, [], ◌∷◌, ◌++◌, drop, is_some, Option, None}
-use Rattle.std.specs.Prelude.{Some, Result, Ok, Err}
-use Rattle.std.proofs.Common.{◌∙◌, ap, sym, arith, append_assoc}
-use Rattle.source.specs.declared.fault.FaultKind.TheVariants.{NoSuchName, Arity, BadCount}
+use Rattle.std.specs.Prelude.{◌≡◌, refl, ℕ, ◌+◌, ◌==◌, Bool, true, false, ◌∷◌, ◌++◌, Option, None}
+use Rattle.std.specs.Prelude.{Some, Result, Ok}
+use Rattle.std.proofs.Common.{◌∙◌, ap, sym, arith}
+use Rattle.source.specs.declared.fault.FaultKind.TheVariants.{Arity}
 use Rattle.source.specs.declared.word.Word.TheVariants as core_word
 use Rattle.source.specs.Tree.{Name}
 use Rattle.surface.specs.declared.fault.Fault.{Fault}
-use Rattle.surface.specs.declared.word.Word.{Word}
-use Rattle.surface.specs.Tree.{Expr, Exprs}
+use Rattle.surface.specs.Tree.{Exprs}
 use Rattle.surface.specs.Words.{Words, of_core, part_words}
 use Rattle.surface.specs.Outside.{list_uses}
 use Rattle.surface.specs.First.{◌>>=◌, must_be}
-use Rattle.surface.specs.Known.{Callee, Signature, lookup, built_in, callee_of, callee}
+use Rattle.surface.specs.Known.{Signature, lookup, built_in, callee_of, callee}
 use Rattle.surface.specs.Rules.{list_values}
 use Rattle.surface_check.specs.declared.frame.Kind.TheVariants as kind
 use Rattle.surface_check.specs.declared.frame.Frame.TheVariants as frame
 use Rattle.surface_check.specs.Evaluates.{strict_ahead}
-use Rattle.surface_check.specs.Pins.{callee_in, signature_in}
-use Rattle.surface_check.specs.Steps.{Open, State, Plain, pushed, ended, callee_at, steps}
+use Rattle.surface_check.specs.Pins.{callee_in}
+use Rattle.surface_check.specs.Steps.{Open, State, Plain, pushed, callee_at, steps}
 use Rattle.surface_check.proofs.HeadsRead.{by_bytes}
 use Rattle.surface_check.proofs.Balanced.{parts_balanced}
 use Rattle.surface_check.proofs.Over.{Setting, IsDeep, around, runs, notes, having, then_equal, bind_assoc, tested}

@@ -1,6 +1,6 @@
 -- `let`.
-use Rattle.std.specs.Prelude.{◌≡◌, refl, ℕ, suc, ◌+◌, ◌==◌, ◌≤◌, ◌||◌, not, Bool, true, false, List, [], ◌∷◌, ◌++◌, length, map, Option, None, Some, Result}
-use Rattle.std.specs.Prelude.{Ok, Err, ⊤, if◌then◌else◌}
+use Rattle.std.specs.Prelude.{◌≡◌, refl, ℕ, ◌+◌, ◌==◌, ◌||◌, not, Bool, true, false, List, [], ◌∷◌, ◌++◌, length, map, Result}
+use Rattle.std.specs.Prelude.{Ok, if◌then◌else◌}
 use Rattle.std.specs.List.{list_any}
 use Rattle.std.proofs.Common.{◌∙◌, ap, sym, arith, append_assoc}
 use Rattle.std.proofs.lemmas.List.{length-append}
@@ -10,7 +10,6 @@ use Rattle.source.specs.declared.word.Word.TheVariants as core_word
 use Rattle.source.specs.Tree.{Name, Target}
 use Rattle.source.specs.Outside.{is_in, without, bound_by}
 use Rattle.surface.specs.declared.fault.Fault.{Fault}
-use Rattle.surface.specs.declared.word.Word.{Word}
 use Rattle.surface.specs.Tree.{Exprs, Body, Let}
 use Rattle.surface.specs.Words.{Words, of_core, target_word, part_words, body_words}
 use Rattle.surface.specs.Outside.{list_uses, body_uses}
@@ -19,7 +18,6 @@ use Rattle.surface.specs.Rules.{new_targets, list_values, body_values}
 use Rattle.source_check.specs.Steps.{since, onto}
 use Rattle.source_check.proofs.Stacks.{since-append, back-append, since-deeper, onto-onto}
 use Rattle.surface_check.specs.declared.frame.Kind.TheVariants as kind
-use Rattle.surface_check.specs.declared.frame.Frame.TheVariants as frame
 use Rattle.surface_check.specs.Steps.{Open, State, Plain, entered, no_value, noted, all_noted, steps}
 use Rattle.surface_check.proofs.HeadsRead.{by_bytes}
 use Rattle.surface_check.proofs.Over.{Setting, IsDeep, around, runs, notes, having, still_deep, notes_both, then_equal, bind_assoc}

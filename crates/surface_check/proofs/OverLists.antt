@@ -14,13 +14,12 @@ use Rattle.surface.specs.Outside.{uses, list_uses}
 use Rattle.surface.specs.First.{◌>>=◌, refused, must_be}
 use Rattle.surface.specs.Constants.{place_of}
 use Rattle.surface.specs.Rules.{rank_of, one_value, known_array, values, list_values, index_values}
-use Rattle.surface_check.specs.declared.frame.Kind.{Kind}
 use Rattle.surface_check.specs.declared.frame.Kind.TheVariants as kind
 use Rattle.surface_check.specs.declared.frame.Frame.{Frame}
 use Rattle.surface_check.specs.declared.frame.Frame.TheVariants as frame
-use Rattle.surface_check.specs.Steps.{Open, State, Plain, top, popped, pushed, ended, taken, is_part, indexed, cell, steps}
+use Rattle.surface_check.specs.Steps.{Open, State, Plain, top, popped, pushed, ended, is_part, indexed, cell, steps}
 use Rattle.surface_check.proofs.HeadsRead.{by_bytes}
-use Rattle.surface_check.proofs.Over.{Setting, IsDeep, around, runs, notes, having, kind_of, Over, still_deep, notes_both, then_equal, bind_assoc, tested}
+use Rattle.surface_check.proofs.Over.{Setting, IsDeep, around, runs, notes, having, kind_of, Over, still_deep, notes_both, then_equal, bind_assoc}
 use Rattle.surface_check.proofs.Over.{tested_then, rank_is, right_as}
 
 pub frame_deep : (s : Open Name) (f : Frame) → IsDeep s → IsDeep (pushed s f)

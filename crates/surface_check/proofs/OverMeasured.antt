@@ -1,8 +1,8 @@
 -- `len`: of an array's whole name, and of a dimension.
-use Rattle.std.specs.Prelude.{◌≡◌, refl, ℕ, suc, ◌+◌, ◌-◌, ◌==◌, ◌≤◌, ◌||◌, ◌&&◌, not, Bool, true, false, ℤ, pos, int_le, int_lt, List, [], ◌∷◌, ◌++◌, is_some, Option, None, Some}
+use Rattle.std.specs.Prelude.{◌≡◌, refl, ℕ, ◌==◌, ◌||◌, ◌&&◌, not, Bool, true, false, ℤ, pos, int_le, int_lt, List, [], ◌∷◌, ◌++◌, is_some, Option, None, Some}
 use Rattle.std.specs.Prelude.{Result, Ok, Err, if◌then◌else◌}
 use Rattle.std.proofs.Common.{◌∙◌, ap, sym, arith, append_assoc}
-use Rattle.source.specs.declared.fault.FaultKind.TheVariants.{NoSuchName, Arity, BadCount}
+use Rattle.source.specs.declared.fault.FaultKind.TheVariants.{NoSuchName, BadCount}
 use Rattle.source.specs.declared.word.Word.TheVariants as core_word
 use Rattle.source.specs.Tree.{Name}
 use Rattle.source.specs.Outside.{is_in}
@@ -16,8 +16,8 @@ use Rattle.surface.specs.Words.{Words, of_core, words, part_words, body_words}
 use Rattle.surface.specs.Outside.{uses, list_uses}
 use Rattle.surface.specs.First.{◌>>=◌, refused, must_be}
 use Rattle.surface.specs.Known.{Known, lookup}
-use Rattle.surface.specs.Constants.{place_of, constant_or, constant_named, constant}
-use Rattle.surface.specs.Rules.{Around, rank_of, known_array, good_dimension, measured}
+use Rattle.surface.specs.Constants.{place_of, constant_or, constant}
+use Rattle.surface.specs.Rules.{rank_of, known_array, good_dimension}
 use Rattle.source_check.specs.Steps.{since}
 use Rattle.surface_check.specs.declared.entry.Entry.{Entry}
 use Rattle.surface_check.specs.declared.evaluation.Part.{Part}
@@ -26,10 +26,10 @@ use Rattle.surface_check.specs.Evaluates.{Evaluation, fresh, evaluates, evaluate
 use Rattle.surface_check.specs.Pins.{constant_in}
 use Rattle.surface_check.specs.Steps as step
 use Rattle.surface_check.specs.Steps.{Open, State, Plain, Measuring, NamePart, ended, rank_at, no_value, all_noted, is_part, word_name, name_part, measures, measured_from, ends_measure, steps}
-use Rattle.surface_check.proofs.Balanced.{Balanced, ends_outer, none_outer, evaluate_append, balanced}
+use Rattle.surface_check.proofs.Balanced.{ends_outer, none_outer, evaluate_append, balanced}
 use Rattle.surface_check.proofs.HeadsRead.{by_bytes, constants_known}
 use Rattle.surface_check.proofs.Evaluated.{parts_of, parts_are}
-use Rattle.surface_check.proofs.Over.{Setting, IsDeep, around, runs, notes, having, then_equal, bind_assoc, tested, rank_is, noted_append}
+use Rattle.surface_check.proofs.Over.{Setting, around, runs, notes, having, bind_assoc, tested, rank_is, noted_append}
 use Rattle.surface_check.proofs.OverArguments.{noted_hidden, array_noted}
 use Rattle.surface_check.proofs.OverWholeCalls.{argument_words, OverMeasured}
 

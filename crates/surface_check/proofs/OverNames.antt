@@ -1,14 +1,10 @@
 -- Names of lists, and `let`.
-use Rattle.std.specs.Prelude.{◌≡◌, refl, ℕ, suc, ◌+◌, ◌==◌, ◌≤◌, not, ◌&&◌, Bool, true, false, List, [], ◌∷◌, ◌++◌, length, map, is_some, Option, None, Some, Result}
-use Rattle.std.specs.Prelude.{Ok, Err, ⊤}
-use Rattle.std.proofs.Common.{◌∙◌, ap, sym, arith, append_assoc}
-use Rattle.std.proofs.lemmas.List.{length-append}
-use Rattle.source.specs.declared.fault.FaultKind.TheVariants.{SameName, Arity}
-use Rattle.source.specs.declared.word.Word.TheVariants as core_word
+use Rattle.std.specs.Prelude.{◌≡◌, ℕ, suc, ◌+◌, not, ◌&&◌, Bool, List, [], ◌∷◌, ◌++◌, length, map, is_some, Option, Some}
+use Rattle.std.specs.Prelude.{Ok}
+use Rattle.std.proofs.Common.{◌∙◌, ap, sym, arith}
+use Rattle.source.specs.declared.fault.FaultKind.TheVariants.{SameName}
 use Rattle.source.specs.Tree.{Name, NameAt, Target, Bind, Drop}
 use Rattle.source.specs.Outside.{is_in, bound_by}
-use Rattle.surface.specs.declared.fault.Fault.{Fault}
-use Rattle.surface.specs.declared.word.Word.{Word}
 use Rattle.surface.specs.Words.{Words, target_word}
 use Rattle.surface.specs.First.{◌>>=◌, must_be}
 use Rattle.surface.specs.Known.{lookup}
@@ -16,9 +12,9 @@ use Rattle.surface.specs.Rules.{new_name, new_targets}
 use Rattle.source_check.specs.Steps.{since, onto}
 use Rattle.source_check.proofs.Stacks.{since-append}
 use Rattle.surface_check.specs.declared.frame.Frame.TheVariants as frame
-use Rattle.surface_check.specs.Steps.{Open, State, Plain, is_new, bound, steps}
+use Rattle.surface_check.specs.Steps.{Open, Plain, is_new, bound, steps}
 use Rattle.surface_check.proofs.HeadsRead.{by_bytes}
-use Rattle.surface_check.proofs.Over.{Setting, IsDeep, around, runs, bind_assoc, then_equal, lookup_is}
+use Rattle.surface_check.proofs.Over.{Setting, around, runs, bind_assoc, then_equal, lookup_is}
 
 -- names of a list are pending, the last one first
 abbrev pub naming : Open Name → List Name → ℕ → Open Name

@@ -1,5 +1,5 @@
 -- THE OUTSIDE NAMES OF TURNS: those that the steps note are those of the definition.
-use Rattle.std.specs.Prelude.{◌≡◌, refl, ℕ, ◌+◌, ◌≤◌, ◌||◌, not, Bool, true, false, List, [], ◌∷◌, ◌++◌, length, map, is_some, Option, None, Some, if◌then◌else◌}
+use Rattle.std.specs.Prelude.{◌≡◌, refl, ℕ, ◌≤◌, ◌||◌, not, Bool, true, false, List, [], ◌∷◌, ◌++◌, length, map, is_some, Option, None, Some, if◌then◌else◌}
 use Rattle.std.specs.List.{list_any}
 use Rattle.std.proofs.Common.{◌∙◌, ap, sym, arith}
 use Rattle.semantics.specs.Graph.{same_name}
@@ -7,7 +7,7 @@ use Rattle.source.specs.Tree.{Name}
 use Rattle.source.specs.Outside.{is_in, without, once}
 use Rattle.source.proofs.CountedSources.{without_none}
 use Rattle.surface.specs.Known.{lookup}
-use Rattle.surface.specs.Rules.{Around, no_values}
+use Rattle.surface.specs.Rules.{no_values}
 use Rattle.source_check.specs.Steps as core
 use Rattle.source_check.specs.Steps.{since, onto}
 use Rattle.source_check.proofs.Noted as core_noted

@@ -1,5 +1,5 @@
 -- A call as a whole.
-use Rattle.std.specs.Prelude.{◌≡◌, refl, ℕ, ◌==◌, codes, Bool, true, false, List, [], ◌∷◌, ◌++◌, length, drop, Option, None, Some, Result, Ok, if◌then◌else◌}
+use Rattle.std.specs.Prelude.{◌≡◌, refl, ℕ, ◌==◌, codes, Bool, true, false, List, [], ◌∷◌, ◌++◌, length, Option, None, Some, Result, Ok, if◌then◌else◌}
 use Rattle.std.proofs.Common.{◌∙◌, ap, append_assoc}
 use Rattle.semantics.specs.Graph.{same_name}
 use Rattle.source.specs.declared.fault.FaultKind.TheVariants.{NoSuchName, Arity}
@@ -7,15 +7,14 @@ use Rattle.source.specs.declared.word.Word.TheVariants as core_word
 use Rattle.source.specs.Tree.{Name}
 use Rattle.surface.specs.declared.fault.Fault.{Fault}
 use Rattle.surface.specs.declared.fault.FaultKind.TheVariants.{Core}
-use Rattle.surface.specs.Tree.{Expr, Call, Exprs}
+use Rattle.surface.specs.Tree.{Call, Exprs}
 use Rattle.surface.specs.Words.{Words, of_core, part_words}
 use Rattle.surface.specs.Outside.{list_uses}
 use Rattle.surface.specs.First.{◌>>=◌, refused, must_be}
-use Rattle.surface.specs.Known.{BuiltIn, Min, Max, Abs, Len, Callee, Missing, OfValues, OfArrays, IsBuiltIn, Signature, all_values, callee, callee_of, built_in, lookup}
+use Rattle.surface.specs.Known.{Min, Max, Abs, Len, Callee, Missing, OfValues, OfArrays, IsBuiltIn, Signature, all_values, callee, callee_of, lookup}
 use Rattle.surface.specs.Rules.{Around, same_ranks, measured, list_values, argument_ranks}
 use Rattle.surface_check.specs.declared.frame.Kind.TheVariants as kind
-use Rattle.surface_check.specs.Evaluates.{strict_ahead}
-use Rattle.surface_check.specs.Steps.{Open, State, name_part, measured_from, calls_built_in, callee_at, steps}
+use Rattle.surface_check.specs.Steps.{Open, name_part, measured_from, calls_built_in, callee_at, steps}
 use Rattle.surface_check.proofs.HeadsRead.{by_bytes}
 use Rattle.surface_check.proofs.Over.{Setting, IsDeep, around, runs, notes, having, Over}
 use Rattle.surface_check.proofs.OverLists.{OverList}

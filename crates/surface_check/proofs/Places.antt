@@ -1,5 +1,5 @@
 -- Places of a table.
-use Rattle.std.specs.Prelude.{suc, negsuc, ◌≤◌, ◌*◌, ◌-◌, ◌∷◌, ℤ, pos, ◌*ℤ◌, ◌^◌, Result, ◌≡◌, refl, ℕ, ◌<◌, ◌==◌, ◌↔◌, IsTrue, [], Bool, true, false, List, length, slice_index_or, slice_set, Option, None, Some, if◌then◌else◌}
+use Rattle.std.specs.Prelude.{suc, negsuc, ◌≤◌, ◌-◌, ◌∷◌, ℤ, pos, ◌*ℤ◌, ◌^◌, Result, ◌≡◌, refl, ℕ, ◌<◌, ◌==◌, ◌↔◌, [], Bool, true, false, List, length, slice_index_or, slice_set, Option, None, Some, if◌then◌else◌}
 use Rattle.std.proofs.Common.{◌∙◌, ap, arith, sym, subst}
 use Rattle.std.proofs.lemmas.Bool.{eqb-true, eqb-false}
 use Rattle.std.proofs.lemmas.Int.{to_z-of_z, fits_signed_from_abs, fits_signed_mul}
@@ -10,7 +10,6 @@ use Rattle.std.proofs.lemmas.List.{get_or-set_same, get_or-set_other}
 use Rattle.semantics.specs.Graph.{same_name}
 use Rattle.semantics.proofs.Lines.{same_name_is, same_name_itself}
 use Rattle.source.specs.Tree.{Name}
-use Rattle.source.specs.Rules.{main_name}
 use Rattle.operators.specs.declared.Binary.TheVariants as binary
 use Rattle.surface.specs.declared.fault.Fault.{Fault}
 use Rattle.surface.specs.Constants.{is_shift, in_64_bits, directly}

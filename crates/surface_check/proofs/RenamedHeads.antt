@@ -1,7 +1,7 @@
 -- HEADS DO NOT DEPEND ON WHAT NAMES ARE, but on which are the same.
-use Rattle.std.specs.Prelude.{◌≡◌, refl, ℕ, ◌+◌, ◌-◌, ◌&&◌, not, nat_le, nat_lt, Bool, true, false, ℤ, pos, List, [], ◌∷◌, ◌++◌, length, map, drop, is_some, Option, None}
-use Rattle.std.specs.Prelude.{Some, Result, Ok, Err, ⊤, if◌then◌else◌}
-use Rattle.std.proofs.Common.{◌∙◌, ap, sym, subst}
+use Rattle.std.specs.Prelude.{◌≡◌, refl, ℕ, ◌+◌, ◌-◌, not, nat_le, nat_lt, Bool, true, false, pos, List, [], ◌∷◌, ◌++◌, length, map, drop, is_some, Option, None}
+use Rattle.std.specs.Prelude.{Some, Result, Ok, Err, if◌then◌else◌}
+use Rattle.std.proofs.Common.{ap, sym, subst}
 use Rattle.source.specs.declared.fault.FaultKind.TheVariants.{SameName, TooMany}
 use Rattle.source.specs.declared.word.Word.{Word as CoreWord}
 use Rattle.source.specs.declared.word.Word.TheVariants as core_word
@@ -10,7 +10,7 @@ use Rattle.surface.specs.declared.fault.FaultKind.{FaultKind}
 use Rattle.surface.specs.declared.fault.FaultKind.TheVariants.{BadArray, Core}
 use Rattle.surface.specs.declared.word.Word.{Word}
 use Rattle.surface.specs.declared.word.Word.TheVariants as word
-use Rattle.surface.specs.First.{◌>>=◌, must, must_be}
+use Rattle.surface.specs.First.{◌>>=◌, must}
 use Rattle.surface.specs.Known.{product, some_value}
 use Rattle.surface_check.specs.declared.entry.Entry.{Entry}
 use Rattle.surface_check.specs.declared.entry.Entry.TheVariants as entry
@@ -19,9 +19,9 @@ use Rattle.surface_check.specs.declared.heads.Head.{Head}
 use Rattle.surface_check.specs.declared.heads.Head.TheVariants as open_head
 use Rattle.surface_check.specs.declared.heads.FunctionHead.{FunctionHead}
 use Rattle.surface_check.specs.Evaluates.{Evaluation, fresh, evaluates, core_evaluates, constant_of, constants}
-use Rattle.surface_check.specs.Heads.{Names, Heads, no_heads, with_item, ends_item, core_ends_item, begins, core_begins, array_begins, constant_begins}
-use Rattle.surface_check.specs.Heads.{function_begins, array_ends, lengths_from, last_part, shape, in_array, constant_ends, in_constant, parameter, is_good_rank}
-use Rattle.surface_check.specs.Heads.{first_refused, results_read, number_of_results, unless_refused, head_ends, in_function, core_in_function, in_body}
+use Rattle.surface_check.specs.Heads.{Names, Heads, with_item, ends_item, core_ends_item, begins, core_begins}
+use Rattle.surface_check.specs.Heads.{array_ends, lengths_from, last_part, shape, constant_ends, parameter, is_good_rank}
+use Rattle.surface_check.specs.Heads.{first_refused, number_of_results, unless_refused, head_ends, in_function, core_in_function}
 use Rattle.surface_check.specs.Heads.{step_in, head_step, heads_read}
 use Rattle.surface_check.specs.Renamed.{renamed, core_renamed}
 

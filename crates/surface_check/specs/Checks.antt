@@ -1,5 +1,5 @@
 -- WHAT A CHECK OF WORDS ANSWERS: nothing, or the first fault. First the heads, then `main`, then the functions.
-use Rattle.std.specs.Prelude.{◌≡◌, ℕ, Bool, true, false, List, Option, None, Some, Result, Ok, Err, ⊤}
+use Rattle.std.specs.Prelude.{◌≡◌, ℕ, Bool, true, false, List, Option, Some, Result, Ok, Err, ⊤}
 use Rattle.semantics.specs.Graph.{same_name}
 use Rattle.source.specs.declared.fault.FaultKind.TheVariants.{NoMain}
 use Rattle.source.specs.Tree.{Name}

@@ -1,6 +1,6 @@
 -- CONSTANTS, WORD BY WORD. The words of an expression are gone over once, of whatever kind it is, and in the end it is known
 -- whether it is a constant, and which. No word is refused on the way: of a part that is no constant only its place counts.
-use Rattle.std.specs.Prelude.{ℕ, zero, suc, ◌+◌, ◌-◌, ◌==◌, nat_le, Bool, false, ℤ, pos, neg_ℤ, List, [], ◌∷◌, ◌++◌, length, Option, None, Some, Result, Ok}
+use Rattle.std.specs.Prelude.{ℕ, zero, suc, ◌+◌, ◌-◌, ◌==◌, nat_le, Bool, false, ℤ, pos, neg_ℤ, List, [], ◌∷◌, ◌++◌, Option, None, Some, Result, Ok}
 use Rattle.std.specs.Prelude.{if◌then◌else◌}
 use Rattle.operators.specs.declared.Unary.{Unary}
 use Rattle.operators.specs.declared.Unary.TheVariants as unary

@@ -1,14 +1,14 @@
 -- THE HEADS OF ITEMS, WORD BY WORD: all words are gone over, and those of bodies do nothing.
-use Rattle.std.specs.Prelude.{ℕ, ◌+◌, ◌-◌, ◌*◌, ◌&&◌, ◌==◌, not, nat_le, nat_lt, Bool, true, false, pos, int_le, ℤ, List, [], ◌∷◌, ◌++◌, length, take, drop, is_some}
+use Rattle.std.specs.Prelude.{ℕ, ◌+◌, ◌-◌, ◌*◌, ◌&&◌, not, nat_le, nat_lt, Bool, true, false, pos, int_le, ℤ, List, [], ◌∷◌, ◌++◌, length, drop, is_some}
 use Rattle.std.specs.Prelude.{Option, None, Some, Result, Ok, Err, ⊤, if◌then◌else◌}
 use Rattle.source.specs.declared.fault.FaultKind.TheVariants.{SameName, BadCount, TooMany}
 use Rattle.source.specs.declared.word.Word.{Word as CoreWord}
 use Rattle.source.specs.declared.word.Word.TheVariants as core_word
 use Rattle.surface.specs.declared.fault.Fault.{Fault}
-use Rattle.surface.specs.declared.fault.FaultKind.TheVariants.{BadArray, Core}
+use Rattle.surface.specs.declared.fault.FaultKind.TheVariants.{BadArray}
 use Rattle.surface.specs.declared.word.Word.{Word}
 use Rattle.surface.specs.declared.word.Word.TheVariants as word
-use Rattle.surface.specs.First.{◌>>=◌, refused, must, must_be}
+use Rattle.surface.specs.First.{◌>>=◌, must, must_be}
 use Rattle.surface.specs.Known.{natural, product, some_value, Callee}
 use Rattle.surface_check.specs.declared.entry.Entry.{Entry}
 use Rattle.surface_check.specs.declared.entry.Entry.TheVariants as entry

@@ -1,13 +1,8 @@
 -- WHAT THE TABLE SAYS of a name is what is known of it.
-use Rattle.std.specs.Prelude.{◌≡◌, ℕ, ◌<◌, ℤ, Bool, true, false, List, length, take, drop, is_some, Option, None, Some, Ok}
-use Rattle.surface.specs.declared.word.Word.{Word}
-use Rattle.surface.specs.Tree.{Program}
+use Rattle.std.specs.Prelude.{◌≡◌, ℕ, ℤ, Bool, true, false, List, take, drop, is_some, Option, None, Some}
 use Rattle.source.specs.Tree.{Name}
-use Rattle.source.specs.Words.{name_of}
 use Rattle.source.specs.Outside.{is_in}
-use Rattle.surface.specs.Words.{IsProgram}
-use Rattle.surface.specs.Known.{Known, Signature, Callee, Missing, nothing, lookup, called, callee}
-use Rattle.surface.specs.Rules.{heads}
+use Rattle.surface.specs.Known.{Known, Signature, Callee, Missing, lookup, called}
 use Rattle.surface_check.specs.declared.entry.Entry.{Entry}
 use Rattle.surface_check.specs.declared.entry.Entry.TheVariants as entry
 use Rattle.surface_check.specs.Heads.{lengths_in}

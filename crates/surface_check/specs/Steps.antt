@@ -1,7 +1,7 @@
 -- THE STATIC RULES OF BODIES, WORD BY WORD. The words of all items are gone over once, each by a step that may look at those
 -- after it. What is open is in a list of frames, the innermost first. Arrays and constants are passed over.
-use Rattle.std.specs.Prelude.{ℕ, zero, suc, ◌+◌, ◌-◌, ◌==◌, ◌&&◌, ◌||◌, not, nat_le, nat_lt, Bool, true, false, ℤ, pos, int_le, int_lt, List, [], ◌∷◌}
-use Rattle.std.specs.Prelude.{◌++◌, length, map, take, drop, replicate, is_some, Option, None, Some, Result, Ok, Err, ⊤, if◌then◌else◌}
+use Rattle.std.specs.Prelude.{ℕ, zero, suc, ◌+◌, ◌-◌, ◌==◌, ◌&&◌, ◌||◌, not, nat_le, Bool, true, false, ℤ, pos, int_le, int_lt, List, [], ◌∷◌}
+use Rattle.std.specs.Prelude.{◌++◌, length, take, drop, replicate, is_some, Option, None, Some, Result, Ok, ⊤, if◌then◌else◌}
 use Rattle.std.specs.List.{list_any}
 use Rattle.operators.specs.declared.Unary.{Unary}
 use Rattle.operators.specs.declared.Unary.TheVariants as unary
@@ -12,7 +12,7 @@ use Rattle.surface.specs.declared.fault.Fault.{Fault}
 use Rattle.surface.specs.declared.fault.FaultKind.TheVariants.{Core}
 use Rattle.surface.specs.declared.word.Word.{Word}
 use Rattle.surface.specs.declared.word.Word.TheVariants as word
-use Rattle.surface.specs.First.{◌>>=◌, refused, must, must_be}
+use Rattle.surface.specs.First.{◌>>=◌, refused, must_be}
 use Rattle.surface.specs.Known.{Callee, Missing, OfValues, OfArrays, IsBuiltIn, Min, Max, Abs, Len, Signature}
 use Rattle.surface.specs.Constants.{number_or_zero}
 use Rattle.surface.specs.Rules.{rank_in, same_ranks, one_if}
