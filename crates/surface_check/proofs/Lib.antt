@@ -16,3 +16,4 @@ pub mod Callees
 pub mod OverArguments
 pub mod OverWholeCalls
 pub mod OverMeasured
+pub mod OverLoops
