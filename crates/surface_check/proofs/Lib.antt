@@ -17,3 +17,4 @@ pub mod OverArguments
 pub mod OverWholeCalls
 pub mod OverMeasured
 pub mod OverLoops
+pub mod OverFors

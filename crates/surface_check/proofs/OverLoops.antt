@@ -35,7 +35,7 @@ use Rattle.surface_check.proofs.OverLets.{any-append}
 use Rattle.surface_check.proofs.OverNoted.{hidden_is, gathers_above, gathers_again, hidden_out, gathered_length}
 
 -- FIRST VALUES: the names of a loop, each with its own
-naming_deep : (s : Open Name) (before : List Name) (k : ℕ) → IsDeep s → IsDeep (naming s before k)
+pub naming_deep : (s : Open Name) (before : List Name) (k : ℕ) → IsDeep s → IsDeep (naming s before k)
 naming_deep s before k d = record { scope = d.scope; used = d.used }
 
 first_as : {A : Type 0} (g : Setting) (e : Expr) → Over g e → (s : Open Name) (before : List Name) (k : ℕ) (ws : Words) → IsDeep s → (q : Result A Fault)
@@ -115,7 +115,7 @@ without_both xs ys (u ∷ us) = rw (any-append (same_name u) xs ys) (go (is_in u
     go true h = h
     go false h = ap (λ (r : List Name). if not (is_in u ys) then u ∷ r else r) h
 
-both_tested : {R : Type 0} (b c : Bool) (at i : ℕ) (x : State Name) (f : State Name → Result R Fault) (h : ℕ → Result R Fault) → f x ≡ h i
+pub both_tested : {R : Type 0} (b c : Bool) (at i : ℕ) (x : State Name) (f : State Name → Result R Fault) (h : ℕ → Result R Fault) → f x ≡ h i
     → ((must_be b Arity at >>= λ all. must_be c TooWide at >>= λ narrow. Ok x) >>= f) ≡ ((must_be b Arity at >>= λ all. must_be c TooWide at >>= λ narrow. Ok i) >>= h)
 both_tested true true at i x f h e = e
 both_tested true false at i x f h e = refl
@@ -158,13 +158,13 @@ OverTurn g turn = (end : Word Name) (at : ℕ) → EndsLoop g at end → is_part
     kind.Other) rest)
 
 -- all uses of a turn together
-together : (g : Setting) (s : Open Name) (xs : List NameAt) (us vs : List Name)
+pub together : (g : Setting) (s : Open Name) (xs : List NameAt) (us vs : List Name)
     → all_noted by_bytes (no_value by_bytes g.items s) (since (length s.scope) (bare xs ++ s.scope)) (length s.used) (all_noted by_bytes (no_value by_bytes g.items s)
     (since (length s.scope) (bare xs ++ s.scope)) (length s.used) s.used us) vs
     ≡ all_noted by_bytes (no_value by_bytes g.items s) (bare xs) (length s.used) s.used (us ++ vs)
 together g s xs us vs = rw (since-append (bare xs) s.scope) (sym (noted_append (no_value by_bytes g.items s) (bare xs) (length s.used) us vs s.used))
 
-body_gone : (s : Open Name) (xs : List NameAt) (b : Body) → back (length s.scope) (left_scope b (bare xs ++ s.scope)) ≡ s.scope
+pub body_gone : (s : Open Name) (xs : List NameAt) (b : Body) → back (length s.scope) (left_scope b (bare xs ++ s.scope)) ≡ s.scope
 body_gone s xs b = back_left b (length s.scope) (bare xs ++ s.scope) (omega (arith, length-append (bare xs) s.scope)) ∙ back-append (bare xs) s.scope
 
 pub over_before : (g : Setting) (xs : List NameAt) (q : Expr) (body : Body) → Over g q → OverBody g body → OverTurn g (Before xs q body)
