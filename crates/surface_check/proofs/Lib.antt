@@ -18,3 +18,4 @@ pub mod OverWholeCalls
 pub mod OverMeasured
 pub mod OverLoops
 pub mod OverFors
+pub mod OverAll

@@ -59,7 +59,7 @@ abbrev Closes : Setting → Word Name → ℕ → ℕ → Type 0
 Closes g w n at = (s : Open Name) (rest : Words)
     → runs g s (w ∷ rest) ≡ (indexed (popped s) (top s.frames) (ended (popped s) n at kind.Other) >>= λ u. steps by_bytes g.items u rest)
 
-abbrev OverIndexes : Setting → Exprs → Type 0
+abbrev pub OverIndexes : Setting → Exprs → Type 0
 OverIndexes g es = (w : Word Name) (m to : ℕ) → is_part w ≡ false → Closes g w m to → (s : Open Name) (at rank c : ℕ) (rest : Words) → IsDeep s
     → runs g (pushed s (frame.Indexes at rank c)) (index_words es ++ w ∷ rest)
     ≡ (index_values (around g s) s.scope es >>= λ n. must_be (c + n == rank) Arity at >>= λ all. runs g (having s (notes g s (list_uses es)) m to kind.Other) rest)

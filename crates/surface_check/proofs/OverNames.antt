@@ -24,7 +24,7 @@ naming s before k = record s { pending = before ++ s.pending; frames = frame.Nam
 abbrev new_in : List Name → List (Name × ℕ) → List Name → Name → Bool
 new_in names arrays before x = not (is_in x names) && not (is_some (lookup arrays x)) && not (is_in x before)
 
-new_is : (g : Setting) (s : Open Name) (before : List Name) (x : Name)
+pub new_is : (g : Setting) (s : Open Name) (before : List Name) (x : Name)
     → is_new by_bytes g.items s (since (length s.pending) (before ++ s.pending)) x ≡ new_in g.known.names s.arrays before x
 new_is g s before x = ap (λ (xs : List Name). is_new by_bytes g.items s xs x) (since-append before s.pending)
     ∙ ap (λ (o : Option ℕ). not (is_some (g.items.item x)) && not (is_some o) && not (is_in x before)) (lookup_is s.arrays x)
