@@ -19,3 +19,4 @@ pub mod OverMeasured
 pub mod OverLoops
 pub mod OverFors
 pub mod OverAll
+pub mod OverFunctions

@@ -1,23 +1,20 @@
 -- `for`.
-use Rattle.std.specs.Prelude.{◌≡◌, refl, ℕ, zero, suc, ◌+◌, ◌-◌, ◌==◌, ◌≤◌, nat_le, ◌||◌, ◌&&◌, not, Bool, true, false, List, [], ◌∷◌, ◌++◌, length, filter, drop}
-use Rattle.std.specs.Prelude.{Option, None, Some, Result, Ok, Err, ⊤, if◌then◌else◌}
-use Rattle.std.specs.List.{list_any}
+use Rattle.std.specs.Prelude.{◌≡◌, refl, ℕ, suc, ◌+◌, ◌-◌, ◌==◌, nat_le, ◌||◌, ◌&&◌, not, Bool, true, false, List, [], ◌∷◌, ◌++◌, length, filter}
+use Rattle.std.specs.Prelude.{Option, None, Some, Result, Ok, ⊤, if◌then◌else◌}
 use Rattle.std.proofs.Common.{◌∙◌, ap, sym, subst, arith, append_assoc}
 use Rattle.operators.specs.declared.Unary.{Unary}
 use Rattle.operators.specs.declared.Unary.TheVariants as unary
 use Rattle.semantics.specs.Graph.{same_name}
 use Rattle.semantics.proofs.Lines.{same_name_is, same_name_itself}
 use Rattle.source.specs.declared.fault.FaultKind.TheVariants.{Arity, TooWide}
-use Rattle.source.specs.declared.word.Word.TheVariants as core_word
 use Rattle.source.specs.Tree.{Name, NameAt}
 use Rattle.source.specs.Outside.{is_in, without, once, bare}
 use Rattle.surface.specs.declared.fault.Fault.{Fault}
-use Rattle.surface.specs.declared.word.Word.{Word}
 use Rattle.surface.specs.declared.word.Word.TheVariants as word
 use Rattle.surface.specs.Tree.{Count, Expr, Number, Named, Bracket, Prefix, For, Exprs, One, More, Body, Carried, Nothing, With, carried_names}
 use Rattle.surface.specs.Fits.{count}
-use Rattle.surface.specs.Words.{Words, of_core, words, bound_words, body_words, carried_words}
-use Rattle.surface.specs.Outside.{uses, list_uses, body_uses, carried_uses}
+use Rattle.surface.specs.Words.{Words, words, bound_words, body_words, carried_words}
+use Rattle.surface.specs.Outside.{uses, body_uses, carried_uses}
 use Rattle.surface.specs.First.{◌>>=◌, must_be}
 use Rattle.surface.specs.Known.{Known}
 use Rattle.surface.specs.Constants.{place_of}
@@ -34,12 +31,12 @@ use Rattle.surface_check.specs.declared.frame.Frame.TheVariants as frame
 use Rattle.surface_check.specs.Steps as step
 use Rattle.surface_check.specs.Steps.{Open, State, Plain, ended, left_turn, bracketed, prefixed, no_value, all_noted, as_many, values_of, end_for, steps}
 use Rattle.surface_check.proofs.HeadsRead.{by_bytes}
-use Rattle.surface_check.proofs.Over.{Setting, IsDeep, around, runs, notes, having, kind_of, Over, IsMiddle, noted_append, still_deep, then_equal, bind_assoc}
+use Rattle.surface_check.proofs.Over.{Setting, IsDeep, around, runs, notes, having, kind_of, Over, noted_append, still_deep, then_equal, bind_assoc}
 use Rattle.surface_check.proofs.Over.{tested_then}
-use Rattle.surface_check.proofs.OverBodies.{left_scope, back_left, all_back, after_body, OverBody}
+use Rattle.surface_check.proofs.OverBodies.{left_scope, all_back, OverBody}
 use Rattle.surface_check.proofs.OverNames.{naming, bound_as}
 use Rattle.surface_check.proofs.OverNoted.{hidden_is, gathers_above, gathers_again, hidden_out, gathered_length}
-use Rattle.surface_check.proofs.OverLoops.{OverFirsts, naming_deep, inside, opened, inside_deep, without_both, both_tested, outside_of, together, body_gone, bound_as_good}
+use Rattle.surface_check.proofs.OverLoops.{OverFirsts, naming_deep, inside, opened, inside_deep, without_both, both_tested, outside_of, body_gone, bound_as_good}
 
 -- NAMES THAT ARE GATHERED are those that are there
 apart : (x y u : Name) → same_name u x ≡ false → same_name u y ≡ true → same_name x y ≡ false

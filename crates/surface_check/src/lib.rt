@@ -9,3 +9,11 @@ pub mod evaluation;
 pub mod frame;
 pub mod heads;
 pub mod table;
+
+ghost use Rattle.surface_check.specs.Checks.{WordsAreChecked};
+
+/// Where the words of a program are gone over once, the answer is that of the rules: nothing, or the first fault.
+#[tactic(auto, using(crate::proofs::OverFunctions::words_are_checked))]
+pub fn words_are_checked()
+    ensures { WordsAreChecked }
+{}
