@@ -1,0 +1,19 @@
+//! The static rules of programs with derived forms: a program is checked once, and if it breaks one, its first fault is
+//! returned.
+#![tactic(auto)]
+
+pub mod callee;
+mod constant;
+pub mod entry;
+pub mod evaluation;
+pub mod frame;
+pub mod heads;
+pub mod table;
+
+ghost use Rattle.surface_check.specs.Checks.{WordsAreChecked};
+
+/// Where the words of a program are gone over once, the answer is that of the rules: nothing, or the first fault.
+#[tactic(auto, using(crate::proofs::OverFunctions::words_are_checked))]
+pub fn words_are_checked()
+    ensures { WordsAreChecked }
+{}
