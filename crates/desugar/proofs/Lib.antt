@@ -16,3 +16,5 @@ pub mod Passes
 pub mod Ends
 pub mod Flags
 pub mod Items
+pub mod Renamings
+pub mod RenamedForms
