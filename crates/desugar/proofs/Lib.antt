@@ -18,3 +18,6 @@ pub mod Flags
 pub mod Items
 pub mod Renamings
 pub mod RenamedForms
+pub mod Renamed
+pub mod RenamedSteps
+pub mod RenamedFlags
