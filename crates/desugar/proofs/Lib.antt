@@ -21,3 +21,4 @@ pub mod RenamedForms
 pub mod Renamed
 pub mod RenamedSteps
 pub mod RenamedFlags
+pub mod Compared
