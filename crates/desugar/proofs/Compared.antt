@@ -13,7 +13,7 @@ use Rattle.desugar.specs.declared.frame.Atom.TheVariants as atom
 use Rattle.desugar.specs.declared.frame.Counting.{Counting}
 use Rattle.desugar.specs.declared.frame.Frame.{Frame}
 use Rattle.desugar.specs.declared.frame.Frame.TheVariants as frame
-use Rattle.desugar.specs.Steps.{Names, State, plain, named, bracket, prefix, infix_ended, not_ended, cut, atom_of, unless_hidden, and_then, end_and, or_then}
+use Rattle.desugar.specs.Steps.{Names, State, named, bracket, prefix, infix_ended, not_ended, cut, atom_of, unless_hidden, and_then, end_and, or_then}
 use Rattle.desugar.specs.Steps.{end_or, passed, cell_ended, call_ended, length_passed, part, statement_ended, when_ended, given, chain, first_arm, second_arm}
 use Rattle.desugar.specs.Steps.{end_if, end_when, bound, start_named, first, while, until, end_loop, counter, range, end_range, turns, end_for, end_array}
 use Rattle.desugar.specs.Steps.{natural, end_constant, end_function, core_step, step, steps}

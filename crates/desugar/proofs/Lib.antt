@@ -22,3 +22,5 @@ pub mod Renamed
 pub mod RenamedSteps
 pub mod RenamedFlags
 pub mod Compared
+pub mod ComparedFlags
+pub mod Numbers

@@ -1,5 +1,5 @@
 -- STEPS DO NOT DEPEND ON WHAT NAMES ARE, but on which are the same: values, statements and conditionals.
-use Rattle.std.specs.Prelude.{◌≡◌, refl, ℕ, suc, ◌+◌, ◌||◌, Bool, true, false, ℤ, pos, negsuc, List, [], ◌∷◌, ◌++◌, map, length, take, drop, Option, None, Some}
+use Rattle.std.specs.Prelude.{◌≡◌, refl, ℕ, suc, ◌+◌, ◌||◌, Bool, true, false, ℤ, pos, negsuc, List, [], ◌∷◌, ◌++◌, length, drop, Option, None, Some}
 use Rattle.std.specs.Prelude.{if◌then◌else◌}
 use Rattle.std.proofs.Common.{◌∙◌, ap, ap₂}
 use Rattle.std.proofs.lemmas.List.{length-map, take-map, drop-map}
@@ -15,12 +15,13 @@ use Rattle.desugar.specs.declared.frame.Finish.{Finish}
 use Rattle.desugar.specs.declared.frame.Finish.TheVariants as finish
 use Rattle.desugar.specs.declared.frame.Frame.{Frame}
 use Rattle.desugar.specs.declared.frame.Frame.TheVariants as frame
-use Rattle.desugar.specs.Forms.{atom_words, atom_level, bracketed, negated, left_end, right_end, let_words, given_end, giving, or_else}
+use Rattle.desugar.specs.Forms.{atom_words, bracketed, negated, given_end, giving}
 use Rattle.desugar.specs.Steps.{Names, State, said, settled, valued, plain, named, bracket, prefix, infix_ended, not_ended, cut, atom_of, unless_hidden}
 use Rattle.desugar.specs.Steps.{name_left, name_made, and_opened, and_then, left_or_zero, end_and, or_opened, or_then, end_or, opened, passed, cell_ended}
 use Rattle.desugar.specs.Steps.{call_ended, length_passed, part, body_opened, next_statement, statement_ended, when_ended, finished, given, chained, chain}
 use Rattle.desugar.specs.Steps.{when_opened, first_arm, second_arm, end_if, end_when}
-use Rattle.desugar.proofs.Renamings.{core_renamed, atom_renamed, maybe_renamed, finish_renamed, frame_renamed, words_in, stack_in, moved, Alike}
+use Rattle.desugar.specs.Renamed.{core_renamed}
+use Rattle.desugar.proofs.Renamings.{atom_renamed, maybe_renamed, finish_renamed, words_in, stack_in, moved, Alike}
 use Rattle.desugar.proofs.RenamedForms.{Renames, lit, both, also, taken, dropped, as_long, atom_words_renamed, atom_left_end, bracketed_renamed, negated_renamed}
 use Rattle.desugar.proofs.RenamedForms.{left_end_renamed, right_end_renamed, let_renamed, giving_renamed, or_else_renamed}
 

@@ -9,7 +9,8 @@ use Rattle.surface.specs.declared.word.Word.TheVariants as word
 use Rattle.desugar.specs.Flags.{Opened, Operand, Arm, InLoop, Carries, Lengths, Arguments, Look, Flagged, asked, is_when, are_lengths, is_carried, before, flag}
 use Rattle.desugar.specs.Flags.{closes, started, core_before, flagged}
 use Rattle.desugar.specs.Steps.{Names, State, steps}
-use Rattle.desugar.proofs.Renamings.{core_renamed, renamed, flag_renamed, moved, Alike}
+use Rattle.desugar.specs.Renamed.{core_renamed}
+use Rattle.desugar.proofs.Renamings.{renamed, flag_renamed, moved, Alike}
 use Rattle.desugar.proofs.RenamedSteps.{steps_renamed}
 
 abbrev opened_renamed : {N M : Type 0} → (N → M) → Opened N → Opened M

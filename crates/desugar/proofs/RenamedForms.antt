@@ -13,9 +13,10 @@ use Rattle.source.specs.declared.word.Word.TheVariants as core
 use Rattle.desugar.specs.declared.frame.Atom.{Atom}
 use Rattle.desugar.specs.declared.frame.Atom.TheVariants as atom
 use Rattle.desugar.specs.declared.frame.Given.{Given}
-use Rattle.desugar.specs.Forms.{atom_words, atom_level, bracketed, negated, brackets, left_end, right_end, let_words, given_end, giving, or_else, goes_on}
+use Rattle.desugar.specs.Forms.{atom_words, atom_level, bracketed, negated, brackets, left_end, right_end, let_words, giving, or_else, goes_on}
 use Rattle.desugar.specs.Forms.{carried_firsts, all_bound, all_named, all_given}
-use Rattle.desugar.proofs.Renamings.{core_renamed, atom_renamed, maybe_renamed, given_renamed, words_in}
+use Rattle.desugar.specs.Renamed.{core_renamed}
+use Rattle.desugar.proofs.Renamings.{atom_renamed, maybe_renamed, given_renamed, words_in}
 
 -- Some words are others with new names.
 pub record Renames {N M : Type 0} (f : N → M) (vs : List (CoreWord M)) (ws : List (CoreWord N)) : Type 0 where

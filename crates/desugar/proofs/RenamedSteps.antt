@@ -1,5 +1,5 @@
 -- STEPS DO NOT DEPEND ON WHAT NAMES ARE, but on which are the same: loops, items, and all steps.
-use Rattle.std.specs.Prelude.{◌≡◌, refl, ℕ, ◌+◌, Bool, ℤ, List, [], ◌∷◌, ◌++◌, map, length, take, drop, true, Option, Some}
+use Rattle.std.specs.Prelude.{◌≡◌, refl, ℕ, ◌+◌, Bool, List, [], ◌∷◌, ◌++◌, map, length, take, drop, true, Option, Some}
 use Rattle.std.proofs.Common.{◌∙◌, ap, ap₂, sym}
 use Rattle.std.proofs.lemmas.List.{length-map, take-map, drop-map, map-append}
 use Rattle.operators.specs.declared.Binary.TheVariants.{Add, Lt}
@@ -15,14 +15,15 @@ use Rattle.desugar.specs.declared.frame.Finish.TheVariants as finish
 use Rattle.desugar.specs.declared.frame.Frame.{Frame}
 use Rattle.desugar.specs.declared.frame.Frame.TheVariants as frame
 use Rattle.desugar.specs.declared.frame.Given.{Given}
-use Rattle.desugar.specs.Forms.{given_end, giving, or_else, goes_on}
-use Rattle.desugar.specs.Steps.{Names, State, said, plain, body_opened, cut, atom_of, unless_hidden, name_left, name_made, cell_ended, opened, named}
+use Rattle.desugar.specs.Forms.{given_end, goes_on}
+use Rattle.desugar.specs.Steps.{Names, State, said, plain, body_opened, cut, atom_of, unless_hidden, cell_ended, opened, named}
 use Rattle.desugar.specs.Steps.{bound, loop_opened, start_named, first, test_opened, tested, while, until, end_loop, counter, from, range, end_range}
 use Rattle.desugar.specs.Steps.{loop_begins, where_it_goes, some_turn, what_is_next, turns_open, turns, after_turns, end_for, natural, cut_off, end_array}
 use Rattle.desugar.specs.Steps.{end_constant, end_function, core_step, step, steps}
-use Rattle.desugar.proofs.Renamings.{core_renamed, renamed, flag_renamed, atom_renamed, maybe_renamed, finish_renamed, counting_renamed}
+use Rattle.desugar.specs.Renamed.{core_renamed}
+use Rattle.desugar.proofs.Renamings.{renamed, flag_renamed, atom_renamed, maybe_renamed, finish_renamed, counting_renamed}
 use Rattle.desugar.proofs.Renamings.{given_renamed as name_renamed, words_in, stack_in, moved, Alike}
-use Rattle.desugar.proofs.RenamedForms.{Renames, lit, both, also, taken, atom_words_renamed, atom_left_end, atom_right_end, let_renamed, giving_renamed}
+use Rattle.desugar.proofs.RenamedForms.{Renames, lit, both, also, taken, atom_words_renamed, atom_left_end, atom_right_end, let_renamed}
 use Rattle.desugar.proofs.RenamedForms.{or_else_renamed, goes_on_renamed, firsts_renamed, bound_renamed, named_renamed, given_values}
 use Rattle.desugar.proofs.Renamed.{said_at, said_on, settled_on, mark, lets_mark, valued_renamed, named_at, bracket_renamed, prefix_renamed, infix_renamed}
 use Rattle.desugar.proofs.Renamed.{not_renamed, cut_renamed, atom_of_renamed, unless_renamed, name_left_renamed, name_made_renamed, and_then_renamed}
