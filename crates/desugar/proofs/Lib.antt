@@ -16,3 +16,11 @@ pub mod Passes
 pub mod Ends
 pub mod Flags
 pub mod Items
+pub mod Renamings
+pub mod RenamedForms
+pub mod Renamed
+pub mod RenamedSteps
+pub mod RenamedFlags
+pub mod Compared
+pub mod ComparedFlags
+pub mod Numbers

@@ -32,7 +32,7 @@ at_end = record { truth = false; outer = [] }
 abbrev opens : {N : Type 0} → Look N → Bool → Opened N → Look N
 opens k truth x = record { truth = truth; outer = x ∷ k.outer }
 
-abbrev closes : {N : Type 0} → List (Opened N) → List (Opened N)
+abbrev pub closes : {N : Type 0} → List (Opened N) → List (Opened N)
 closes [] = []
 closes (x ∷ outer) = outer
 
@@ -48,7 +48,7 @@ abbrev pub are_lengths : {N : Type 0} → List (Opened N) → Bool
 are_lengths (Lengths ∷ outer) = true
 are_lengths outer = false
 
-abbrev started : {N : Type 0} → N → List (Opened N) → List (Opened N)
+abbrev pub started : {N : Type 0} → N → List (Opened N) → List (Opened N)
 started x (Carries names ∷ outer) = Carries (x ∷ names) ∷ outer
 started x outer = outer
 
@@ -57,7 +57,7 @@ is_carried same (Some (word.Core (core.Name at x))) (Carries names ∷ outer) = 
 is_carried same before outer = false
 
 -- before a word of the core
-abbrev core_before : {N : Type 0} → CoreWord N → Look N → Look N
+abbrev pub core_before : {N : Type 0} → CoreWord N → Look N → Look N
 core_before core.Bracket k = k
 core_before core.While k = record k { truth = true }
 core_before (core.EndLoop at n) k = opens k true InLoop

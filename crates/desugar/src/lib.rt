@@ -3,14 +3,18 @@
 //! **The statement.** `words_are_desugared` (`specs/StepsDesugar`): a pass from the end gives each word of a program a flag
 //! (`specs/Flags`), and one from the front (`specs/Steps`) makes of the words and flags the words of the program of the core that it is
 //! short for. It speaks of programs that call nothing that is built in and no function with parameters for arrays, and whose arrays have
-//! one dimension (`specs/Plain`).
+//! one dimension (`specs/Plain`). `numbers_are_desugared` (`specs/NumbersDesugar`) says the same of words as code has them: names are
+//! numbers in a table, and hidden names are numbered after it.
 //!
 //! **Why it holds.** By induction on the tree (`Trees`): the words of a part append the words of what it is in the core, and those of the
 //! `let`s that it holds (`Over`). A value stays on a stack, with the place of its first word, so that a hidden name can take its place
 //! (`Atoms`); at the end of a statement its `let`s go before it (`Bodies`). A plain program wants no instances (`Wanted`). The
 //! flags are those of the tree (`Noted`), since a part leaves open what is open after it (`Passes`, and `Flags` by induction).
+//! Neither pass depends on what names are, but on which are the same (`RenamedSteps`, `RenamedFlags`); and of hidden names it is
+//! enough that they are no names of the table, since names are compared only with names of the words (`Compared`, `ComparedFlags`).
 #![tactic(auto)]
 
+ghost use Rattle.desugar.specs.NumbersDesugar.{NumbersDesugar};
 ghost use Rattle.desugar.specs.StepsDesugar.{StepsDesugar};
 
 pub mod frame;
@@ -18,4 +22,10 @@ pub mod frame;
 /// The steps over the words of a program, each with its flag, make the words of the program of the core that it is short for.
 pub fn words_are_desugared()
     ensures law { StepsDesugar }
+{}
+
+/// They do so also where words give names by their numbers in a table, and hidden names are numbered after it. No name of the
+/// table begins as the hidden ones do.
+pub fn numbers_are_desugared()
+    ensures law { NumbersDesugar }
 {}
