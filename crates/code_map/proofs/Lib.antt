@@ -1,0 +1,13 @@
+mod Carry
+mod Closing
+mod Codes
+mod Examples
+mod Inside
+mod Lengths
+mod Passes
+mod Plain
+mod RowParts
+mod Seen
+mod Tails
+mod Variant
+mod Whole

@@ -1,0 +1,11 @@
+pub mod Parts
+pub mod Owners
+pub mod Carried
+pub mod Counts
+pub mod Ends
+pub mod Joins
+pub mod Found
+pub mod Numbered
+pub mod Laws
+pub mod Picked
+pub mod Examples
