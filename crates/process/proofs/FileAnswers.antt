@@ -10,7 +10,7 @@ use Rattle.outcomes.specs.declared.refusal.Refusal.{Refusal}
 use Rattle.commands.specs.FileInputs.{IsInputOf, IsNoInputOf}
 use Rattle.process.specs.declared.sending.HintSent.{HintSent}
 use Rattle.process.specs.HintSent.{Account, Speaks}
-use Rattle.process.specs.Files.{AnswersInput, AnswersRead, ChosenIf, ExplainsRead, Printing, PrintsFile, PrintsInput}
+use Rattle.process.specs.Files.{AnswersInput, AnswersRead, ChosenIf, ExplainsRead, Mapped, Printing, PrintsFile, PrintsInput, Shown}
 
 -- what was read of the file, or why that is nothing
 abbrev pub WasRead : {A : Type 0} → FileRequest → List ℕ → Result (Vec ℕ A) Refusal → Type 0
@@ -24,6 +24,12 @@ module _ (P Q : Printing) (go : (s : Result Outcome Error) (o a : Option (List �
   chosen_too true words served old all (inl p) = inl (p.0, p.1, p.2, go (Ok p.1) (Some []) (Some p.0) p.3, p.4, p.5)
   chosen_too true words served old all (inr p) = inr p
 
+  -- and the map is that of the file's bytes
+  pub mapped_too : (asked : Bool) (bytes : List ℕ) (served : Result Outcome Error) (old all : Option (List ℕ))
+      → Mapped asked bytes P served old all → Mapped asked bytes Q served old all
+  mapped_too false bytes served old all p = go served old all p
+  mapped_too true bytes served old all p = p
+
 prints_file : {A : Type 0} (file : FileRequest) (bytes : List ℕ) (input : Result (Vec ℕ A) Refusal) → WasRead file bytes input
     → (s : Result Outcome Error) (o a : Option (List ℕ)) → PrintsInput file.request input s o a → PrintsFile bytes file s o a
 prints_file file bytes (Ok v) is s o a prints = inl (v.items, is, prints)
@@ -31,13 +37,15 @@ prints_file file bytes (Err f) is s o a refuses = inr (f, is, refuses)
 
 pub answers_read : {A : Type 0} (file : FileRequest) (words : List (List ℕ)) (bytes : List ℕ) (input : Result (Vec ℕ A) Refusal)
     (old held new holds : Option (List ℕ)) (outcome : Option Outcome) → old ≡ held → new ≡ holds → WasRead file bytes input
-    → AnswersInput file.options words file.request input old new outcome → AnswersRead words bytes file held holds outcome
+    → AnswersInput file.options words bytes file.request input old new outcome → AnswersRead words bytes file held holds outcome
 answers_read file words bytes input old held new holds outcome before after is (all, served, prints, flushes) =
     subst (λ o. AnswersRead words bytes file o holds outcome) before (subst (λ n. AnswersRead words bytes file old n outcome) after (
       all,
       served,
-      chosen_too (λ s o a. PrintsInput file.request input s o a) (λ s o a. PrintsFile bytes file s o a) (prints_file file bytes input is)
-          (file.options.cells || file.options.grid) words served old all prints,
+      mapped_too (λ s o a. Shown file.options words (λ s o a. PrintsInput file.request input s o a) s o a)
+          (λ s o a. Shown file.options words (λ s o a. PrintsFile bytes file s o a) s o a)
+          (chosen_too (λ s o a. PrintsInput file.request input s o a) (λ s o a. PrintsFile bytes file s o a) (prints_file file bytes input is)
+          (file.options.cells || file.options.grid) words) file.options.map bytes served old all prints,
       flushes,
     ))
 

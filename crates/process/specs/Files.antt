@@ -17,6 +17,7 @@ use Rattle.outcomes.specs.declared.refusal.Refusal.{Refusal}
 use Rattle.commands.specs.Answered.{Answers as Prints}
 use Rattle.commands.specs.Served.{Refuses}
 use Rattle.commands.specs.FileInputs.{AnswersFile, IsInputOf}
+use Rattle.mapped.specs.Mapped.{PrintsCodeMap}
 use Rattle.process.specs.declared.sending.HintSent.{HintSent}
 use Rattle.process.specs.HintSent.{Account, Speaks}
 use Rattle.process.specs.Process.{Ends, Flushes, exits}
@@ -54,15 +55,21 @@ ChosenIf true P words served old all = Chosen P (option_value (codes "cells") wo
 abbrev pub Shown : FileOptions → List (List ℕ) → Printing → Printing
 Shown options words P served old all = ChosenIf (options.cells || options.grid) P words served old all
 
+-- THE MAP of the code of a file with these bytes, if it is asked for: else P is what is printed
+abbrev pub Mapped : Bool → List ℕ → Printing → Printing
+Mapped false bytes P served old all = P served old all
+Mapped true bytes P served old all = PrintsCodeMap served old all bytes
+
 -- What is printed of this input, or the refusal, and whether it was written out.
 abbrev pub PrintsInput : {A : Type 0} → Request → Result (Vec ℕ A) Refusal → Printing
 PrintsInput request input served old all = MatchResult input (λ v. Prints served old all v.items request) (Refuses served old all)
 
-abbrev pub AnswersInput : {A : Type 0} → FileOptions → List (List ℕ) → Request → Result (Vec ℕ A) Refusal → Option (List ℕ) → Option (List ℕ)
+abbrev pub AnswersInput : {A : Type 0} → FileOptions → List (List ℕ) → List ℕ → Request → Result (Vec ℕ A) Refusal → Option (List ℕ) → Option (List ℕ)
     → Option Outcome → Type 0
-AnswersInput options words request input old new outcome =
+AnswersInput options words bytes request input old new outcome =
     (all : Option (List ℕ)) × (served : Result Outcome Error)
-    × Shown options words (λ s o a. PrintsInput request input s o a) served old all × Flushes all new served outcome
+    × Mapped options.map bytes (λ s o a. Shown options words (λ s o a. PrintsInput request input s o a) s o a) served old all
+    × Flushes all new served outcome
 
 -- STANDARD OUTPUT held `old`, and holds `new`: what it held before, followed by what is printed of the file with these bytes.
 abbrev pub PrintsFile : List ℕ → FileRequest → Printing
@@ -71,7 +78,8 @@ PrintsFile bytes file served old all = AnswersFile served old all bytes file.req
 abbrev pub AnswersRead : List (List ℕ) → List ℕ → FileRequest → Option (List ℕ) → Option (List ℕ) → Option Outcome → Type 0
 AnswersRead words bytes file old new outcome =
     (all : Option (List ℕ)) × (served : Result Outcome Error)
-    × Shown file.options words (λ s o a. PrintsFile bytes file s o a) served old all × Flushes all new served outcome
+    × Mapped file.options.map bytes (λ s o a. Shown file.options words (λ s o a. PrintsFile bytes file s o a) s o a) served old all
+    × Flushes all new served outcome
 
 -- STANDARD ERROR: the explanation of a run is of the words, of what the command read of the file, or where that is nothing of the file, and of the outcome.
 abbrev pub ExplainsRead : Account → List (List ℕ) → List ℕ → FileRequest → Option Outcome → Option (List ℕ) → Type 0

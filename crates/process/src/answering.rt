@@ -4,13 +4,14 @@ ghost use Rattle.std.specs.Prelude.{◌≡◌, [], IfSome, Ok, drop, map, option
 ghost use Rattle.std.specs.Io.Buffered.{writer_buffer, writer_contents, writer_inner};
 ghost use Rattle.std.specs.Io.KnownBytes.{Keeps};
 ghost use Rattle.process.specs.Process.{Answers};
-ghost use Rattle.process.specs.Files.{AnswersInput, Chosen, PrintsInput, Shown};
+ghost use Rattle.process.specs.Files.{AnswersInput, Chosen, Mapped, PrintsInput, Shown};
 
 use chosen_cells::write_chosen;
 use command_line::{FileOptions, FileRequest, Request, option_value};
 use commands::filed::answer_input;
 use commands::serving::{arguments_of, serve_words};
 use driver::resources::Resources;
+use mapped::print_code_map;
 use outcomes::{Outcome, Refusal};
 use rounds::Open;
 use std::alloc::{Allocator, Global};
@@ -96,18 +97,39 @@ fn answer_shown<S: AsStr, W: Write, R: Threads + Wait + Sync>(
     }
 }
 
-/// Prints what is asked for of this input with these words, which give these options, or the refusal, and writes out all that the buffer
-/// holds. Gives the outcome, where no write failed.
+/// Prints that, or the map of the code of the file with these bytes, if the options ask for it.
+fn answer_mapped<S: AsStr, W: Write, R: Threads + Wait + Sync>(
+    words: &[S],
+    file: &FileRequest<'_>,
+    bytes: &[u8],
+    input: &Result<Vec<u8>, Refusal>,
+    writer: &mut W,
+    resources: Resources<'_, Global, R, Open>,
+) -> io::Result<Outcome>
+    ensures { Mapped file.now.options.map bytes.now
+        (λ s o a. Shown file.now.options (map S.text (drop 1 words.now)) (λ s o a. PrintsInput file.now.request input.now s o a) s o a) result
+        (W.contents writer.old) (W.contents writer.new) }
+{
+    if file.options.map {
+        print_code_map(resources.alloc, bytes, writer)
+    } else {
+        answer_shown(words, file.options, &file.request, input, writer, resources)
+    }
+}
+
+/// Prints what is asked for of this input with these words, which give these options, or the refusal; or of the file with these bytes,
+/// where the map of its code is asked for; and writes out all that the buffer holds. Gives the outcome, where no write failed.
 pub fn answer_read<S: AsStr, W: Write + Drop, R: Threads + Wait + Sync>(
     words: &[S],
     file: &FileRequest<'_>,
+    bytes: &[u8],
     input: &Result<Vec<u8>, Refusal>,
     writer: &mut BufWriter<W>,
     resources: Resources<'_, Global, R, Open>,
 ) -> Option<Outcome>
-    ensures { AnswersInput file.now.options (map S.text (drop 1 words.now)) file.now.request input.now (writer_contents W.contents writer.old)
+    ensures { AnswersInput file.now.options (map S.text (drop 1 words.now)) bytes.now file.now.request input.now (writer_contents W.contents writer.old)
         (W.contents (writer_inner writer.new)) result }
 {
-    let served = answer_shown(words, file.options, &file.request, input, writer, resources);
+    let served = answer_mapped(words, file, bytes, input, writer, resources);
     flushed(writer, served)
 }

@@ -126,7 +126,7 @@ fn run_read<X: Explain, S: AsStr, I: Drop, W: Write + Drop, E: Write, R: Threads
     let alloc = resources.alloc;
     let mut writer = BufWriter::new(alloc, writer)?;
     let input = input_of(&alloc, bytes, &file.request, &file.inputs);
-    let outcome = answer_read(words, file, &input, &mut writer, resources);
+    let outcome = answer_read(words, file, bytes, &input, &mut writer, resources);
     let (writer, _unwritten) = writer.into_parts();
     send_warnings(alloc, bytes, file, errors);
     let program = program_in(bytes, &file.request);
