@@ -66,10 +66,7 @@ fn map_text<'a, A: Allocator + Clone>(alloc: A, text: &'a [u8]) -> Result<Mapped
 }
 
 /// The same of a graph that is well formed.
-fn map_good<'a, A: Allocator + Clone>(
-    alloc: A,
-    graph: Graph<'a, A>,
-) -> Result<Mapped<'a, A>, Fault>
+fn map_good<'a, A: Allocator + Clone>(alloc: A, graph: Graph<'a, A>) -> Result<Mapped<'a, A>, Fault>
     ensures { WellFormed graph.entry → MatchResult result
         (λ m. (m.checked ≡ graph.entry) × IsObjectOf graph.entry m.object.bytes × (m.owners.items ≡ owners_of (flow_of graph.entry)))
         (IsTooLarge graph.entry) }
