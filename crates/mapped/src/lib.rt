@@ -1,7 +1,7 @@
 //! The map of a file's code: for each instruction the node of the graph for which it was made, and for a program the place in it, too.
 #![tactic(auto)]
 
-ghost use Rattle.std.specs.Prelude.{◌≡◌, List, MatchResult, Option, option_map, ℕ};
+ghost use Rattle.std.specs.Prelude.{◌≡◌, List, MatchResult, ℕ};
 ghost use Rattle.semantics.specs.Graph.{flow_of};
 ghost use Rattle.semantics.specs.WellFormed.{WellFormed};
 ghost use Rattle.sink.specs.Sends.{Sends};
@@ -79,10 +79,10 @@ fn map_good<'a, A: Allocator + Clone>(alloc: A, graph: Graph<'a, A>) -> Result<M
 fn send_map<A: Allocator, W: Write>(
     writer: &mut W,
     mapped: &Mapped<'_, A>,
-    places: Option<&ProgramPlaces<'_, '_, A>>,
+    places: Option<ProgramPlaces<'_, '_, A>>,
 ) -> io::Result<()>
     ensures { mapped.now.owners.items ≡ owners_of (flow_of mapped.now.checked)
-        → Sends result (W.contents writer.old) (W.contents writer.new) (map_of mapped.now.checked mapped.now.object.bytes (option_map (λ p. p.now) places.entry)) }
+        → Sends result (W.contents writer.old) (W.contents writer.new) (map_of mapped.now.checked mapped.now.object.bytes places.entry) }
 {
     let object = mapped.object.as_object();
     // What the bytes promise: they are the object.
@@ -133,7 +133,7 @@ fn print_made_map<'a, A: Allocator + Clone, W: Write>(
         program,
         places: &places,
     };
-    match send_map(writer, &mapped, Some(&places)) {
+    match send_map(writer, &mapped, Some(places)) {
         Ok(()) => Ok(Outcome::Done),
         Err(fault) => Err(fault),
     }
