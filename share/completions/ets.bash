@@ -9,10 +9,11 @@ _ets_options() {
         profile) echo --elements --frames --steps --take --svg --quiet ;;
         orders) echo --elements --frames --steps --take --count --seed --cells --grid --quiet ;;
         mean) echo --steps --cells --grid --quiet ;;
-        dis) echo --literals ;;
+        dis) echo --literals --map --quiet ;;
         dot) echo --code --quiet ;;
         lower) echo --map --quiet ;;
-        check | compile) echo --quiet ;;
+        check) echo --quiet ;;
+        compile) echo --map --quiet ;;
     esac
 }
 

@@ -72,9 +72,10 @@ file_option_named name =
     if bytes_eq name (codes "cells") then Some FileOption.Cells
     else (if bytes_eq name (codes "grid") then Some FileOption.Grid
     else (if bytes_eq name (codes "quiet") then Some FileOption.Quiet
-    else None))
+    else (if bytes_eq name (codes "map") then Some FileOption.Map
+    else None)))
 
--- `cells` and `grid` are of commands that print a report alone; `quiet` is of those that work on a program
+-- `cells` and `grid` are of commands that print a report alone; `quiet` is of those that work on a program, if only with `map`, which is of those that print code
 abbrev pub prints_report : Command → Bool
 prints_report Command.Run = true
 prints_report Command.Mean = true
@@ -83,13 +84,18 @@ prints_report c = false
 
 abbrev pub reads_program : Command → Bool
 reads_program Command.Exec = false
-reads_program Command.Dis = false
 reads_program Command.Upgrade = false
 reads_program Command.Asm = false
 reads_program c = true
 
+abbrev pub prints_code : Command → Bool
+prints_code Command.Compile = true
+prints_code Command.Dis = true
+prints_code c = false
+
 abbrev pub takes_file_option : Command → FileOption → Bool
 takes_file_option c FileOption.Quiet = reads_program c
+takes_file_option c FileOption.Map = prints_code c
 takes_file_option c o = prints_report c
 
 -- the option that a word names, with its value, if `=` follows the name; none where an option waits for the word as its value
@@ -126,15 +132,17 @@ abbrev pub is_value : FileOption → Text → Bool
 is_value FileOption.Cells text = true
 is_value FileOption.Grid text = is_grid text
 is_value FileOption.Quiet text = false
+is_value FileOption.Map text = false
 
 abbrev pub no_options : FileOptions
-no_options = record { cells = false; grid = false; quiet = false }
+no_options = record { cells = false; grid = false; quiet = false; map = false }
 
 -- each may be given once
 abbrev pub with_file_option : FileOptions → FileOption → Option FileOptions
 with_file_option g FileOption.Cells = if g.cells then None else Some (record g { cells = true })
 with_file_option g FileOption.Grid = if g.grid then None else Some (record g { grid = true })
 with_file_option g FileOption.Quiet = if g.quiet then None else Some (record g { quiet = true })
+with_file_option g FileOption.Map = if g.map then None else Some (record g { map = true })
 
 -- THE VALUE OF AN OPTION among words that have a file: what follows `=`, or the next word. After `--` there are no options.
 abbrev pub value_or_next : Option Text → List Text → Option Text
@@ -157,11 +165,16 @@ unfoldable pub option_value : Text → List Text → Option Text
 option_value name [] = None
 option_value name (word ∷ rest) = found_or (value_found name word rest) (option_value name rest)
 
+-- For the map of code there is one request.
+abbrev pub asked_of : Command → FileOptions → Command
+asked_of Command.Dis options = if options.map then Command.Compile else Command.Dis
+asked_of c options = c
+
 -- What is to be done with the file of this name. The inputs of `exec` are those of its request.
 abbrev pub file_request : Command → Collected → FileOptions → Text → Inputs → Given
 file_request c g options name ins =
     if takes_inputs c then Given.File (record { name = name; request = request_of c (with_file_defaults c g) ins; inputs = no_inputs; options = options })
-    else Given.File (record { name = name; request = request_of c (with_file_defaults c g) no_inputs; inputs = ins; options = options })
+    else Given.File (record { name = name; request = request_of (asked_of c options) (with_file_defaults c g) no_inputs; inputs = ins; options = options })
 
 -- ONE WORD, where this was given before it
 -- a plain word: the file, or an input after it; without a file all is as it is read without one
@@ -172,7 +185,7 @@ plain_given c walk (Some name) word =
 
 -- whether one of a file's options was given
 abbrev pub are_some : FileOptions → Bool
-are_some g = g.cells || g.grid || g.quiet
+are_some g = g.cells || g.grid || g.quiet || g.map
 
 abbrev pub help_given : Command → FileOptions → Option Text → Given
 help_given c options None = if are_some options then Given.Help c else Given.Words
@@ -210,9 +223,10 @@ option_given walk (Some options) = Walked.On (record walk { options = options; w
 abbrev pub value_given : Walk → FileOption → Text → Walked
 value_given walk o value = if is_value o value then option_given walk (with_file_option walk.options o) else Walked.Done Given.Words
 
--- `quiet` has no value, and each other one waits for it
+-- `quiet` and `map` have no value, and each other one waits for it
 abbrev pub without_value_given : Walk → FileOption → Walked
 without_value_given walk FileOption.Quiet = option_given walk (with_file_option walk.options FileOption.Quiet)
+without_value_given walk FileOption.Map = option_given walk (with_file_option walk.options FileOption.Map)
 without_value_given walk o = Walked.On (record walk { wanted = Some o })
 
 abbrev pub file_option_given : Walk → FileOption → Option Text → Walked

@@ -2,9 +2,9 @@
 
 ghost use Rattle.std.specs.Prelude.{◌≡◌, ◌<◌, IfSome, map, None, option_map, slice_get};
 ghost use Rattle.command_line.specs.Words.{long_of, no_inputs, nothing};
-ghost use Rattle.command_line.specs.Files.{all_given, are_rows, are_some, end_given, file_option_at, file_option_given, file_option_named, file_request, file_take};
+ghost use Rattle.command_line.specs.Files.{all_given, are_rows, are_some, asked_of, end_given, file_option_at, file_option_given, file_option_named, file_request, file_take};
 ghost use Rattle.command_line.specs.Files.{first_given, given, given_of, help_given, inputs_given, is_file, is_grid, is_plain, is_row, is_value, no_options};
-ghost use Rattle.command_line.specs.Files.{no_words, option_given, option_value, plain_given, prints_report, reads_program, row_length, step_given, takes_file_option};
+ghost use Rattle.command_line.specs.Files.{no_words, option_given, option_value, plain_given, prints_code, prints_report, reads_program, row_length, step_given, takes_file_option};
 ghost use Rattle.command_line.specs.Files.{takes_inputs_after, unwanted_given, value_found, value_given, value_of, with_file_defaults, with_file_option, word_given};
 
 use crate::inputs::Inputs;
@@ -51,6 +51,8 @@ enum FileOption {
     Grid,
     /// It has no value.
     Quiet,
+    /// It has no value.
+    Map,
 }
 
 /// Which of them were given. Their values are among the words (`option_value`).
@@ -62,6 +64,8 @@ pub struct FileOptions {
     pub grid: bool,
     /// Warnings are left out.
     pub quiet: bool,
+    /// The map of the code is printed in place of the code.
+    pub map: bool,
 }
 
 /// What is given with the words of a command line.
@@ -159,6 +163,8 @@ fn file_option_named(name: &str) -> Option<FileOption>
         Some(FileOption::Grid)
     } else if name == "quiet" {
         Some(FileOption::Quiet)
+    } else if name == "map" {
+        Some(FileOption::Map)
     } else {
         None
     }
@@ -171,14 +177,18 @@ fn prints_report(command: Command) -> bool
     matches!(command, Command::Run | Command::Mean | Command::Orders)
 }
 
-/// Whether the command works on a program.
+/// Whether the command works on a program, or does so with one of its options.
 fn reads_program(command: Command) -> bool
     ensures { result ≡ reads_program command }
 {
-    !matches!(
-        command,
-        Command::Exec | Command::Dis | Command::Upgrade | Command::Asm
-    )
+    !matches!(command, Command::Exec | Command::Upgrade | Command::Asm)
+}
+
+/// Whether the command makes the code of a graph and prints it.
+fn prints_code(command: Command) -> bool
+    ensures { result ≡ prints_code command }
+{
+    matches!(command, Command::Compile | Command::Dis)
 }
 
 fn takes_file_option(command: Command, option: FileOption) -> bool
@@ -186,6 +196,7 @@ fn takes_file_option(command: Command, option: FileOption) -> bool
 {
     match option {
         FileOption::Quiet => reads_program(command),
+        FileOption::Map => prints_code(command),
         FileOption::Cells | FileOption::Grid => prints_report(command),
     }
 }
@@ -259,7 +270,7 @@ fn is_value(option: FileOption, text: &str) -> bool
     match option {
         FileOption::Cells => true,
         FileOption::Grid => is_grid(text),
-        FileOption::Quiet => false,
+        FileOption::Quiet | FileOption::Map => false,
     }
 }
 
@@ -271,6 +282,7 @@ impl FileOptions {
             cells: false,
             grid: false,
             quiet: false,
+            map: false,
         }
     }
 
@@ -278,7 +290,7 @@ impl FileOptions {
     fn are_some(self) -> bool
         ensures { result ≡ are_some self }
     {
-        self.cells || self.grid || self.quiet
+        self.cells || self.grid || self.quiet || self.map
     }
 
     /// With the option too, unless it was given before.
@@ -295,8 +307,19 @@ impl FileOptions {
                 quiet: true,
                 ..self
             }),
+            FileOption::Map if !self.map => Some(FileOptions { map: true, ..self }),
             _ => None,
         }
+    }
+}
+
+/// The command whose request is made: for the map of code there is one.
+fn asked_of(command: Command, options: FileOptions) -> Command
+    ensures { result ≡ asked_of command options }
+{
+    match command {
+        Command::Dis if options.map => Command::Compile,
+        _ => command,
     }
 }
 
@@ -321,7 +344,7 @@ fn file_request<'a>(
     } else {
         Given::File(FileRequest {
             name,
-            request: request_of(command, collected, Inputs::none()),
+            request: request_of(asked_of(command, options), collected, Inputs::none()),
             inputs,
             options,
         })
@@ -472,8 +495,8 @@ fn file_option_given<'a>(walk: Walk<'a>, option: FileOption, value: Option<&str>
 {
     match (option, value) {
         (option, Some(value)) => value_given(walk, option, value),
-        (FileOption::Quiet, None) => {
-            let options = walk.options.with(FileOption::Quiet);
+        (FileOption::Quiet | FileOption::Map, None) => {
+            let options = walk.options.with(option);
             option_given(walk, options)
         }
         (option, None) => Walked::On(Walk {

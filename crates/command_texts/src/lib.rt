@@ -81,11 +81,13 @@ It prints `ok`, status 0, or a refusal, status 1: docs/FORMATS.md, \"Graph text\
 const AFTER_COMPILE: &str = "\
 Examples: ets compile examples/factorial.df > object
           sed '/^main /q' examples/add.ets | ets compile > object
+          ets compile --map examples/factorial.df
 The object file: docs/FORMATS.md, \"Object file\".";
 
 const AFTER_DIS: &str = "\
 Examples: ets dis examples/add.etsobject
           ets dis --literals < object | ets asm > again
+          ets dis --map examples/factorial.df
 The listing: docs/FORMATS.md, \"Listing of `ets dis`\".";
 
 const AFTER_UPGRADE: &str = "\
@@ -294,6 +296,18 @@ fn with_quiet<'a>(alloc: Global, command: Command<'a>) -> Result<Command<'a>, Al
     command.arg(quiet)
 }
 
+/// The option that prints the map of the code. It is for a file.
+fn with_code_map<'a>(alloc: Global, command: Command<'a>) -> Result<Command<'a>, AllocError> {
+    let map = Arg::new(alloc, "map")
+        .long("map")
+        .action(ArgAction::SetTrue)
+        .requires_arg("FILE")?
+        .help(
+            "in place of the code of a program or a graph of FILE, for each of its instructions the node of the graph for which it was made",
+        );
+    command.arg(map)
+}
+
 /// Adds the options that say how to run, of which `frames` is one.
 fn with_run_options<'a>(
     alloc: Global,
@@ -399,11 +413,13 @@ fn dis_command<'a>(alloc: Global) -> Result<Command<'a>, AllocError> {
         .long("literals")
         .action(ArgAction::SetTrue)
         .help("the object's table of literals, too");
-    Command::new(alloc, "dis")
+    let command = Command::new(alloc, "dis")
         .about("Lists the code of the object of FILE or on standard input")
         .after_help(AFTER_DIS)
         .arg(literals)?
-        .arg(file(alloc, "a file with an object; - for standard input"))
+        .arg(file(alloc, "a file with an object; - for standard input"))?;
+    let command = with_code_map(alloc, command)?;
+    with_quiet(alloc, command)
 }
 
 fn dot_command<'a>(alloc: Global) -> Result<Command<'a>, AllocError> {
@@ -537,6 +553,7 @@ pub fn program_command<'a, S: AsStr>(
         )
         .after_help(AFTER_COMPILE)
         .arg(file(alloc, source))?;
+    let compile = with_code_map(alloc, compile)?;
     let upgrade = Command::new(alloc, "upgrade")
         .about("Writes the object of FILE or on standard input as version 2 of the object file")
         .after_help(AFTER_UPGRADE)

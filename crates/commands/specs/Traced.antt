@@ -1,5 +1,5 @@
 -- What `trace` prints of a run: its events, or a page that shows it.
-use Rattle.std.specs.Prelude.{◌≡◌, ℕ, ◌-◌, ◌*◌, false, ℤ, ◌⊎◌, List, ◌++◌, length, drop, Option, Some, None, Result}
+use Rattle.std.specs.Prelude.{◌≡◌, ℕ, ◌-◌, ◌*◌, false, ℤ, ◌⊎◌, List, [], ◌++◌, length, drop, Option, Some, None, Result}
 use Rattle.semantics.specs.Graph.{Graph}
 use Rattle.semantics.specs.Report.{Report}
 use Rattle.object_view.specs.Reading.{opened}
@@ -56,10 +56,10 @@ PrintsEvents result old new input o last format =
     ⊎ ((f : Refusal) × IsNoRunOf input o f × Refuses result old new f)
 
 -- THE PAGE of a run: the input, which is the graph's text and the integers; the listing of the graph's code; the report of the run; and the
--- books of its events from number `first` on, as data. The page's own source is the same for all runs.
-abbrev pub page_text : List ℕ → RunOptions → ℕ → Graph → List ℕ → Report → BooksView → List ℕ
-page_text input o first g bytes r books =
-    html_text input (listing_of bytes) (report_text g.arrays r) (data_text o.elements (o.elements * o.frames) first (drop first r.events) books)
+-- books of its events from number `first` on, as data, with the source's pane after them, if there is one. The page's own source is the same for all runs.
+abbrev pub page_text : List ℕ → RunOptions → ℕ → Graph → List ℕ → Report → BooksView → List ℕ → List ℕ
+page_text input o first g bytes r books pane =
+    html_text input (listing_of bytes) (report_text g.arrays r) (data_text o.elements (o.elements * o.frames) first (drop first r.events) books ++ pane)
     (length r.events - first)
 
 -- the outcome
@@ -76,12 +76,12 @@ pub record IsPageOf (input : List ℕ) (o : RunOptions) (first : ℕ) (g : Graph
   pub kept : HasBooks bytes inputs (config_of o) first r books
 
 -- where there is no page, the refusal has the cause for which `run` has no report
-abbrev pub PrintsPage : {E : Type 0} → Result Outcome E → Option (List ℕ) → Option (List ℕ) → List ℕ → RunOptions → Option ℕ → Type 0
-PrintsPage result old new input o last =
+abbrev pub PrintsPage : {E : Type 0} → Result Outcome E → Option (List ℕ) → Option (List ℕ) → List ℕ → RunOptions → Option ℕ → List ℕ → Type 0
+PrintsPage result old new input o last pane =
     ((g : Graph) × (bytes : List ℕ) × (r : Report) × (books : BooksView) × IsPageOf input o (first_of (length r.events) last) g bytes r books
-    × Prints result old new (page_text input o (first_of (length r.events) last) g bytes r books) (paged (first_of (length r.events) last) r))
+    × Prints result old new (page_text input o (first_of (length r.events) last) g bytes r books pane) (paged (first_of (length r.events) last) r))
     ⊎ ((f : Refusal) × IsNoRunOf input o f × Refuses result old new f)
 
 abbrev pub PrintsTrace : {E : Type 0} → Result Outcome E → Option (List ℕ) → Option (List ℕ) → List ℕ → RunOptions → Option ℕ → Format → Type 0
 PrintsTrace result old new input o last (Format.Events format) = PrintsEvents result old new input o last format
-PrintsTrace result old new input o last Format.Html = PrintsPage result old new input o last
+PrintsTrace result old new input o last Format.Html = PrintsPage result old new input o last []

@@ -80,7 +80,7 @@ struct Paged<'a, A: Allocator> {
 }
 
 /// Writes the data of the events that are shown.
-fn write_run<A: Allocator, W: Write>(
+fn write_events<A: Allocator, W: Write>(
     writer: &mut W,
     options: &RunOptions,
     run: &Paged<'_, A>,
@@ -88,10 +88,8 @@ fn write_run<A: Allocator, W: Write>(
     requires elements { options.now.elements ≤ 16 }
     requires frames { options.now.frames ≤ 1024 }
     ensures { Sends result (W.contents writer.old) (W.contents writer.new)
-        (part_text ToData ++ data_text options.now.elements (options.now.elements * options.now.frames) run.now.first
-        (drop run.now.first run.now.report.events) run.now.books) }
+        (data_text options.now.elements (options.now.elements * options.now.frames) run.now.first (drop run.now.first run.now.report.events) run.now.books) }
 {
-    write_part(writer, Part::ToData)?;
     let report = &run.report;
     write_data(
         writer,
@@ -103,17 +101,52 @@ fn write_run<A: Allocator, W: Write>(
     )
 }
 
+/// Writes that data, and the text of the source's pane.
+fn write_shown<A: Allocator, W: Write>(
+    writer: &mut W,
+    options: &RunOptions,
+    run: &Paged<'_, A>,
+    pane: &[u8],
+) -> io::Result<()>
+    requires elements { options.now.elements ≤ 16 }
+    requires frames { options.now.frames ≤ 1024 }
+    ensures { Sends result (W.contents writer.old) (W.contents writer.new)
+        (data_text options.now.elements (options.now.elements * options.now.frames) run.now.first (drop run.now.first run.now.report.events)
+        run.now.books ++ pane.now) }
+{
+    write_events(writer, options, run)?;
+    send(writer, pane)
+}
+
+/// Writes what is between the report and the script.
+fn write_run<A: Allocator, W: Write>(
+    writer: &mut W,
+    options: &RunOptions,
+    run: &Paged<'_, A>,
+    pane: &[u8],
+) -> io::Result<()>
+    requires elements { options.now.elements ≤ 16 }
+    requires frames { options.now.frames ≤ 1024 }
+    ensures { Sends result (W.contents writer.old) (W.contents writer.new)
+        (part_text ToData ++ (data_text options.now.elements (options.now.elements * options.now.frames) run.now.first
+        (drop run.now.first run.now.report.events) run.now.books ++ pane.now)) }
+{
+    write_part(writer, Part::ToData)?;
+    write_shown(writer, options, run, pane)
+}
+
 /// Writes the page.
 fn write_page<A: Allocator, W: Write>(
     writer: &mut W,
     input: &[u8],
     options: &RunOptions,
     run: &Paged<'_, A>,
+    pane: &[u8],
 ) -> io::Result<()>
     requires elements { options.now.elements ≤ 16 }
     requires frames { options.now.frames ≤ 1024 }
     ensures { Sends result (W.contents writer.old) (W.contents writer.new)
-        (page_text input.now options.now run.now.first run.now.compiled.checked run.now.compiled.object.bytes run.now.report run.now.books) }
+        (page_text input.now options.now run.now.first run.now.compiled.checked run.now.compiled.object.bytes run.now.report run.now.books pane.now) }
 {
     let object = run.compiled.object.as_object();
     // What the bytes promise: they are the object.
@@ -122,7 +155,7 @@ fn write_page<A: Allocator, W: Write>(
     write_listing(writer, &object)?;
     let report = &run.report;
     write_result(writer, run.compiled.checked.graph(), report)?;
-    write_run(writer, options, run)?;
+    write_run(writer, options, run, pane)?;
     write_part(writer, Part::Script)?;
     let events: &[(u32, Token)] = &report.events;
     write_mark(writer, events.len().saturating_sub(run.first))
@@ -214,8 +247,8 @@ fn shown<A: Allocator>(report: &Report<A>, first: usize) -> Outcome
 }
 
 /// Runs the graph of the input on the integers after it, and prints a page that shows all its events or only the last ones; or why there is
-/// none. Gives the outcome.
-pub(crate) fn print_page<
+/// none. `pane` is the text of the source's pane, which is after the run's data; empty if there is none. Gives the outcome.
+pub fn print_page<
     R: Threads + Wait + Sync,
     A: Allocator + Clone + Send + Sync,
     G: Gate + Sync,
@@ -225,16 +258,17 @@ pub(crate) fn print_page<
     input: &[u8],
     options: &RunOptions,
     last: Option<u64>,
+    pane: &[u8],
     writer: &mut W,
 ) -> io::Result<Outcome>
     requires { G.may_stop ≡ false }
-    ensures { PrintsPage result (W.contents writer.old) (W.contents writer.new) input.now options.now last }
+    ensures { PrintsPage result (W.contents writer.old) (W.contents writer.new) input.now options.now last pane.now }
 {
     let run = match page_input(resources, input, options, last) {
         Ok(run) => run,
         Err(refusal) => return refuse(writer, &refusal),
     };
-    match write_page(writer, input, options, &run) {
+    match write_page(writer, input, options, &run, pane) {
         Ok(()) => Ok(shown(&run.report, run.first)),
         Err(fault) => Err(fault),
     }

@@ -19,7 +19,7 @@ pub(crate) fn input_refusal(fault: InputFault) -> Refusal
 }
 
 /// The refusal of a text or an object that has no report.
-pub(crate) fn fault_refusal(fault: Fault) -> Refusal
+pub fn fault_refusal(fault: Fault) -> Refusal
     ensures { result ≡ refused_as fault }
 {
     match fault {
@@ -34,7 +34,7 @@ pub(crate) fn fault_refusal(fault: Fault) -> Refusal
 }
 
 /// The refusal of a program that is not lowered.
-pub(crate) fn lower_refusal(fault: LowerFault) -> Refusal
+pub fn lower_refusal(fault: LowerFault) -> Refusal
     ensures { result ≡ unlowered_as fault }
 {
     match fault {

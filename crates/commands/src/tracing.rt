@@ -243,6 +243,6 @@ pub fn print_trace<
 {
     match format {
         Format::Events(format) => print_events(resources, input, options, last, format, writer),
-        Format::Html => print_page(resources, input, options, last, writer),
+        Format::Html => print_page(resources, input, options, last, b"", writer),
     }
 }

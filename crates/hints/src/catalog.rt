@@ -174,10 +174,11 @@ options/trace: the options of `ets $1` are --last N, --format text, chrome or ht
 options/profile: the options of `ets $1` are --elements N,N,.. (each 1 to 16), --frames N (1 to 1024), --steps N (at most 4294967296), --take oldest or depth, --svg, and with a file --quiet, each at most once
 options/orders: the options of `ets $1` are --count N, --seed N, --elements N (1 to 16), --frames N (1 to 1024), --steps N (at most 4294967296), --take oldest, and with a file --cells A,B or none, --grid A=N and --quiet, each at most once
 options/mean: the options of `ets $1` are --steps N, and with a file --cells A,B or none, --grid A=N and --quiet, each at most once
-options/dis: the options of `ets $1` are --literals, at most once
+options/dis: the options of `ets $1` are --literals, and with a file --map and --quiet, each at most once
 options/dot: the options of `ets $1` are --code, and with a file --quiet, each at most once
 options/lower: the options of `ets $1` are --map, and with a file --quiet, each at most once
-options/check, compile: the option of `ets $1` is --quiet, with a file, at most once; it reads a file, `ets $1 FILE`, or standard input, `ets $1 < FILE`
+options/compile: the options of `ets $1` are --map and --quiet, with a file, each at most once; it reads a file, `ets $1 FILE`, or standard input, `ets $1 < FILE`
+options/check: the option of `ets $1` is --quiet, with a file, at most once; it reads a file, `ets $1 FILE`, or standard input, `ets $1 < FILE`
 outer/array: array NAME LEN
 outer/block: block NAME INPUTS OUTPUTS
 outer/main: main NAME

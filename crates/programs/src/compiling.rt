@@ -21,7 +21,7 @@ use object_view::OwnedObject;
 use std::alloc::Allocator;
 
 /// A graph that is well formed, as checked.
-fn check_good<'a, A: Allocator + Clone>(graph: Graph<'a, A>) -> Result<Checked<'a, A>, Fault>
+pub fn check_good<'a, A: Allocator + Clone>(graph: Graph<'a, A>) -> Result<Checked<'a, A>, Fault>
     ensures { WellFormed graph.entry → MatchResult result (λ c. (c ≡ graph.entry) × HasText graph.entry) (λ fault. fault ≡ Faults.Memory) }
 {
     let checked = check_graph(graph)?;

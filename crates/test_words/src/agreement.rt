@@ -258,7 +258,7 @@ fn are_inputs_of_object(alloc: Global, inputs: &Inputs, exec: &ArgMatches<'_>) -
 
 /// Whether the command works on a program, so that it may warn of it.
 fn may_warn(command: &str) -> bool {
-    !matches!(command, "exec" | "dis" | "upgrade" | "asm")
+    !matches!(command, "exec" | "upgrade" | "asm")
 }
 
 /// Whether `clap` reads these options of a file, with these values among the words.
@@ -271,9 +271,11 @@ fn are_options_read(
     let cells = option_value("cells", words);
     let grid = option_value("grid", words);
     let is_quiet = may_warn(command) && matches.get_flag("quiet");
+    let is_map = matches!(command, "compile" | "dis") && matches.get_flag("map");
     options.cells == cells.is_some()
         && options.grid == grid.is_some()
         && options.quiet == is_quiet
+        && options.map == is_map
         && (!options.cells || matches.get_str("cells") == cells)
         && (!options.grid || matches.get_str("grid") == grid)
 }

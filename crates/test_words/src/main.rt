@@ -155,7 +155,7 @@ const MEASURES: [&str; 22] = [
 ];
 
 /// Options of a file, and what may be between them.
-const FILE_OPTIONS: [&str; 16] = [
+const FILE_OPTIONS: [&str; 17] = [
     "--cells",
     "--cells A",
     "--cells=A,B",
@@ -167,6 +167,7 @@ const FILE_OPTIONS: [&str; 16] = [
     "--grid=",
     "--quiet",
     "--quiet=x",
+    "--map",
     "--frames=21",
     "--",
     "3",
@@ -175,13 +176,15 @@ const FILE_OPTIONS: [&str; 16] = [
 ];
 
 /// Words before them.
-const BEFORE_FILE_OPTIONS: [&str; 8] = [
+const BEFORE_FILE_OPTIONS: [&str; 10] = [
     "ets run",
     "ets run p.df",
     "ets mean p.df",
     "ets orders p.df",
     "ets check",
     "ets lower p.df",
+    "ets compile p.df",
+    "ets dis p.df",
     "ets exec",
     "ets exec p.o",
 ];

@@ -11,7 +11,7 @@ returns-in-Ok-write_page g c =
     let i = c.args.input.now in
     let o = c.args.options.now in
     let n = first_of (length r.events) c.args.last in
-    let same = ap (λ (m : ℕ). page_text i o m k.checked k.object.bytes r run.books) c.in-Ok.ensures.first in
+    let same = ap (λ (m : ℕ). page_text i o m k.checked k.object.bytes r run.books c.args.pane.now) c.in-Ok.ensures.first in
     inl (
       k.checked,
       k.object.bytes,
@@ -29,7 +29,7 @@ returns g c =
     let i = c.args.input.now in
     let o = c.args.options.now in
     let n = first_of (length r.events) c.args.last in
-    let same = ap (λ (m : ℕ). page_text i o m k.checked k.object.bytes r run.books) c.in-Ok.ensures.first in
+    let same = ap (λ (m : ℕ). page_text i o m k.checked k.object.bytes r run.books c.args.pane.now) c.in-Ok.ensures.first in
     inl (
       k.checked,
       k.object.bytes,
