@@ -145,7 +145,7 @@ fn run_input<'a, R: Threads + Wait + Sync, A: Allocator + Clone + Send + Sync, G
 }
 
 /// Prints the line of the refusal, which is the outcome.
-pub(crate) fn refuse<W: Write>(writer: &mut W, refusal: &Refusal) -> io::Result<Outcome>
+pub fn refuse<W: Write>(writer: &mut W, refusal: &Refusal) -> io::Result<Outcome>
     ensures { Refuses result (W.contents writer.old) (W.contents writer.new) refusal.now }
 {
     match write_refusal(writer, refusal) {
