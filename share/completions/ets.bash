@@ -3,16 +3,16 @@
 # The options of a command that take a value, and then those that take none.
 _ets_options() {
     case $1 in
-        run) echo --elements --frames --steps --mode --turn --take --cells --grid --quiet ;;
+        run) echo --elements --frames --steps --mode --turn --take --cells --grid --format --quiet ;;
         exec) echo --elements --frames --steps --mode --turn --take ;;
         trace) echo --elements --frames --steps --mode --turn --take --last --format --quiet ;;
-        profile) echo --elements --frames --steps --take --svg --quiet ;;
-        orders) echo --elements --frames --steps --take --count --seed --cells --grid --quiet ;;
-        mean) echo --steps --cells --grid --quiet ;;
+        profile) echo --elements --frames --steps --take --svg --format --quiet ;;
+        orders) echo --elements --frames --steps --take --count --seed --cells --grid --format --quiet ;;
+        mean) echo --steps --cells --grid --format --quiet ;;
         dis) echo --literals --map --quiet ;;
         dot) echo --code --quiet ;;
-        lower) echo --map --quiet ;;
-        check) echo --quiet ;;
+        lower) echo --map --format --quiet ;;
+        check) echo --format --quiet ;;
         compile) echo --map --quiet ;;
     esac
 }
@@ -25,7 +25,8 @@ _ets_values() {
         "orders --take") echo oldest ;;
         *" --take") echo oldest depth ;;
         *" --cells") echo none ;;
-        *" --format") echo text chrome html ;;
+        "trace --format") echo text chrome html json ;;
+        *" --format") echo text json ;;
     esac
 }
 

@@ -73,7 +73,8 @@ file_option_named name =
     else (if bytes_eq name (codes "grid") then Some FileOption.Grid
     else (if bytes_eq name (codes "quiet") then Some FileOption.Quiet
     else (if bytes_eq name (codes "map") then Some FileOption.Map
-    else None)))
+    else (if bytes_eq name (codes "format") then Some FileOption.Format
+    else None))))
 
 -- `cells` and `grid` are of commands that print a report alone; `quiet` is of those that work on a program, if only with `map`, which is of those that print code
 abbrev pub prints_report : Command → Bool
@@ -93,19 +94,45 @@ prints_code Command.Compile = true
 prints_code Command.Dis = true
 prints_code c = false
 
-abbrev pub takes_file_option : Command → FileOption → Bool
-takes_file_option c FileOption.Quiet = reads_program c
-takes_file_option c FileOption.Map = prints_code c
-takes_file_option c o = prints_report c
+-- `format` is of commands that print lines alone, of which JSON can be made, and of `trace`, whose other formats are no matter of a file
+abbrev pub prints_lines : Command → Bool
+prints_lines Command.Run = true
+prints_lines Command.Mean = true
+prints_lines Command.Check = true
+prints_lines Command.Profile = true
+prints_lines Command.Orders = true
+prints_lines Command.Lower = true
+prints_lines c = false
+
+abbrev pub is_json : Option Text → Bool
+is_json None = false
+is_json (Some value) = bytes_eq value (codes "json")
+
+abbrev pub takes_format : Command → Option Text → Bool
+takes_format Command.Trace value = is_json value
+takes_format c value = prints_lines c
+
+-- where this would be its value
+abbrev pub takes_file_option : Command → FileOption → Option Text → Bool
+takes_file_option c FileOption.Quiet value = reads_program c
+takes_file_option c FileOption.Map value = prints_code c
+takes_file_option c FileOption.Format value = takes_format c value
+takes_file_option c o value = prints_report c
+
+-- THE VALUE of an option: what follows `=`, or the next word
+abbrev pub value_or_next : Option Text → List Text → Option Text
+value_or_next (Some value) rest = Some value
+value_or_next None rest = slice_get rest 0
 
 -- the option that a word names, with its value, if `=` follows the name; none where an option waits for the word as its value
-abbrev pub file_option_in : Command → Option (Text × Option Text) → Option (FileOption × Option Text)
-file_option_in c None = None
-file_option_in c (Some p) = option_and_then (λ o. if takes_file_option c o then Some (o, p.1) else None) (file_option_named p.0)
+abbrev pub file_option_in : Command → Option (Text × Option Text) → List Text → Option (FileOption × Option Text)
+file_option_in c None rest = None
+file_option_in c (Some p) rest =
+    option_and_then (λ o. if takes_file_option c o (value_or_next p.1 rest) then Some (o, p.1) else None) (file_option_named p.0)
 
-abbrev pub file_option_at : Command → Option OptionName → Text → Option (FileOption × Option Text)
-file_option_at c (Some option) word = None
-file_option_at c None word = file_option_in c (long_of word)
+abbrev pub file_option_at : Command → Option OptionName → Text → List Text → Option (FileOption × Option Text)
+file_option_at c (Some option) word rest = None
+file_option_at c None word rest = file_option_in c (long_of word) rest
 
 -- VALUES. Of `grid`: arrays with how many cells a row has, as `A=8` or `A=8,B=4`. A row has at least one.
 abbrev pub row_length : Option Text → Option ℕ
@@ -133,9 +160,10 @@ is_value FileOption.Cells text = true
 is_value FileOption.Grid text = is_grid text
 is_value FileOption.Quiet text = false
 is_value FileOption.Map text = false
+is_value FileOption.Format text = bytes_eq text (codes "json") || bytes_eq text (codes "text")
 
 abbrev pub no_options : FileOptions
-no_options = record { cells = false; grid = false; quiet = false; map = false }
+no_options = record { cells = false; grid = false; quiet = false; map = false; format = false }
 
 -- each may be given once
 abbrev pub with_file_option : FileOptions → FileOption → Option FileOptions
@@ -143,12 +171,9 @@ with_file_option g FileOption.Cells = if g.cells then None else Some (record g {
 with_file_option g FileOption.Grid = if g.grid then None else Some (record g { grid = true })
 with_file_option g FileOption.Quiet = if g.quiet then None else Some (record g { quiet = true })
 with_file_option g FileOption.Map = if g.map then None else Some (record g { map = true })
+with_file_option g FileOption.Format = if g.format then None else Some (record g { format = true })
 
--- THE VALUE OF AN OPTION among words that have a file: what follows `=`, or the next word. After `--` there are no options.
-abbrev pub value_or_next : Option Text → List Text → Option Text
-value_or_next (Some value) rest = Some value
-value_or_next None rest = slice_get rest 0
-
+-- THE VALUE OF AN OPTION among words that have a file. After `--` there are no options.
 abbrev pub value_of : Text → Option (Text × Option Text) → List Text → Option (Option Text)
 value_of name None rest = None
 value_of name (Some p) rest = if bytes_eq p.0 name then Some (value_or_next p.1 rest) else None
@@ -170,11 +195,12 @@ abbrev pub asked_of : Command → FileOptions → Command
 asked_of Command.Dis options = if options.map then Command.Compile else Command.Dis
 asked_of c options = c
 
--- What is to be done with the file of this name. The inputs of `exec` are those of its request.
+-- What is to be done with the file of this name. The inputs of `exec` are those of its request. Of two formats neither is one.
 abbrev pub file_request : Command → Collected → FileOptions → Text → Inputs → Given
 file_request c g options name ins =
-    if takes_inputs c then Given.File (record { name = name; request = request_of c (with_file_defaults c g) ins; inputs = no_inputs; options = options })
-    else Given.File (record { name = name; request = request_of (asked_of c options) (with_file_defaults c g) no_inputs; inputs = ins; options = options })
+    if options.format && is_some g.format then Given.Words
+    else (if takes_inputs c then Given.File (record { name = name; request = request_of c (with_file_defaults c g) ins; inputs = no_inputs; options = options })
+    else Given.File (record { name = name; request = request_of (asked_of c options) (with_file_defaults c g) no_inputs; inputs = ins; options = options }))
 
 -- ONE WORD, where this was given before it
 -- a plain word: the file, or an input after it; without a file all is as it is read without one
@@ -185,7 +211,7 @@ plain_given c walk (Some name) word =
 
 -- whether one of a file's options was given
 abbrev pub are_some : FileOptions → Bool
-are_some g = g.cells || g.grid || g.quiet || g.map
+are_some g = g.cells || g.grid || g.quiet || g.map || g.format
 
 abbrev pub help_given : Command → FileOptions → Option Text → Given
 help_given c options None = if are_some options then Given.Help c else Given.Words
@@ -240,7 +266,7 @@ flag_given c walk None word rest = step_given c walk (word_met c walk.collected 
 abbrev pub unwanted_given : Command → Walk → Text → List Text → Walked
 unwanted_given c walk word rest =
     if is_plain walk.waiting word then plain_given c walk walk.file word
-    else flag_given c walk (file_option_at c walk.waiting word) word rest
+    else flag_given c walk (file_option_at c walk.waiting word rest) word rest
 
 -- the value of an option that waits is no flag
 abbrev pub wanted_given : Command → Walk → Option FileOption → Text → List Text → Walked

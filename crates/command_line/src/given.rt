@@ -3,9 +3,9 @@
 ghost use Rattle.std.specs.Prelude.{◌≡◌, ◌<◌, IfSome, map, None, option_map, slice_get};
 ghost use Rattle.command_line.specs.Words.{long_of, no_inputs, nothing};
 ghost use Rattle.command_line.specs.Files.{all_given, are_rows, are_some, asked_of, end_given, file_option_at, file_option_given, file_option_named, file_request, file_take};
-ghost use Rattle.command_line.specs.Files.{first_given, given, given_of, help_given, inputs_given, is_file, is_grid, is_plain, is_row, is_value, no_options};
-ghost use Rattle.command_line.specs.Files.{no_words, option_given, option_value, plain_given, prints_code, prints_report, reads_program, row_length, step_given, takes_file_option};
-ghost use Rattle.command_line.specs.Files.{takes_inputs_after, unwanted_given, value_found, value_given, value_of, with_file_defaults, with_file_option, word_given};
+ghost use Rattle.command_line.specs.Files.{first_given, given, given_of, help_given, inputs_given, is_file, is_grid, is_json, is_plain, is_row, is_value, no_options};
+ghost use Rattle.command_line.specs.Files.{no_words, option_given, option_value, plain_given, prints_code, prints_lines, prints_report, reads_program, row_length, step_given, takes_file_option};
+ghost use Rattle.command_line.specs.Files.{takes_inputs_after, unwanted_given, value_found, value_given, value_of, value_or_next, with_file_defaults, with_file_option, word_given};
 
 use crate::inputs::Inputs;
 use crate::options::{
@@ -53,6 +53,8 @@ enum FileOption {
     Quiet,
     /// It has no value.
     Map,
+    /// How what is printed is written: as text or as JSON.
+    Format,
 }
 
 /// Which of them were given. Their values are among the words (`option_value`).
@@ -66,6 +68,8 @@ pub struct FileOptions {
     pub quiet: bool,
     /// The map of the code is printed in place of the code.
     pub map: bool,
+    /// The format is said.
+    pub format: bool,
 }
 
 /// What is given with the words of a command line.
@@ -165,6 +169,8 @@ fn file_option_named(name: &str) -> Option<FileOption>
         Some(FileOption::Quiet)
     } else if name == "map" {
         Some(FileOption::Map)
+    } else if name == "format" {
+        Some(FileOption::Format)
     } else {
         None
     }
@@ -191,10 +197,35 @@ fn prints_code(command: Command) -> bool
     matches!(command, Command::Compile | Command::Dis)
 }
 
-fn takes_file_option(command: Command, option: FileOption) -> bool
-    ensures { result ≡ takes_file_option command option }
+/// Whether the command prints lines alone, of which JSON can be made.
+fn prints_lines(command: Command) -> bool
+    ensures { result ≡ prints_lines command }
+{
+    matches!(
+        command,
+        Command::Run
+            | Command::Mean
+            | Command::Check
+            | Command::Profile
+            | Command::Orders
+            | Command::Lower
+    )
+}
+
+/// Whether this is the value that asks for JSON.
+fn is_json(value: Option<&str>) -> bool
+    ensures { result ≡ is_json (option_map (λ s. s.now) value.entry) }
+{
+    value == Some("json")
+}
+
+/// Whether the command takes the option of a file, where this would be its value. The other formats of `trace` are no matter of a file.
+fn takes_file_option(command: Command, option: FileOption, value: Option<&str>) -> bool
+    ensures { result ≡ takes_file_option command option (option_map (λ s. s.now) value.entry) }
 {
     match option {
+        FileOption::Format if command == Command::Trace => is_json(value),
+        FileOption::Format => prints_lines(command),
         FileOption::Quiet => reads_program(command),
         FileOption::Map => prints_code(command),
         FileOption::Cells | FileOption::Grid => prints_report(command),
@@ -202,19 +233,21 @@ fn takes_file_option(command: Command, option: FileOption) -> bool
 }
 
 /// The option of a file that the word names, with its value, if `=` follows the name; none where an option waits for the word as its value.
-fn file_option_at(
+/// These words are after it.
+fn file_option_at<'a, S: AsStr>(
     command: Command,
     waiting: Option<OptionName>,
-    word: &str,
-) -> Option<(FileOption, Option<&str>)>
-    ensures { option_map (λ p. (p.0, option_map (λ s. s.now) p.1)) result ≡ file_option_at command waiting word.now }
+    word: &'a str,
+    words: &'a [S],
+) -> Option<(FileOption, Option<&'a str>)>
+    ensures { option_map (λ p. (p.0, option_map (λ s. s.now) p.1)) result ≡ file_option_at command waiting word.now (map S.text words.now) }
 {
     if waiting.is_some() {
         return None;
     }
     let (name, value) = long_of(word)?;
     let option = file_option_named(name)?;
-    if takes_file_option(command, option) {
+    if takes_file_option(command, option, value_or_next(value, words)) {
         Some((option, value))
     } else {
         None
@@ -270,6 +303,7 @@ fn is_value(option: FileOption, text: &str) -> bool
     match option {
         FileOption::Cells => true,
         FileOption::Grid => is_grid(text),
+        FileOption::Format => is_json(Some(text)) || text == "text",
         FileOption::Quiet | FileOption::Map => false,
     }
 }
@@ -283,6 +317,7 @@ impl FileOptions {
             grid: false,
             quiet: false,
             map: false,
+            format: false,
         }
     }
 
@@ -290,7 +325,7 @@ impl FileOptions {
     fn are_some(self) -> bool
         ensures { result ≡ are_some self }
     {
-        self.cells || self.grid || self.quiet || self.map
+        self.cells || self.grid || self.quiet || self.map || self.format
     }
 
     /// With the option too, unless it was given before.
@@ -308,6 +343,10 @@ impl FileOptions {
                 ..self
             }),
             FileOption::Map if !self.map => Some(FileOptions { map: true, ..self }),
+            FileOption::Format if !self.format => Some(FileOptions {
+                format: true,
+                ..self
+            }),
             _ => None,
         }
     }
@@ -333,6 +372,9 @@ fn file_request<'a>(
 ) -> Given<'a>
     ensures { result ≡ file_request command collected options name.entry inputs }
 {
+    if options.format && collected.format.is_some() {
+        return Given::Words;
+    }
     let collected = with_file_defaults(command, collected);
     if takes_inputs(command) {
         Given::File(FileRequest {
@@ -518,7 +560,7 @@ fn unwanted_given<'a, S: AsStr>(
     if is_plain(walk.waiting, word) {
         return plain_given(command, walk, word);
     }
-    match file_option_at(command, walk.waiting, word) {
+    match file_option_at(command, walk.waiting, word, words) {
         Some((option, value)) => file_option_given(walk, option, value),
         None => {
             let step = word_met(command, walk.collected, walk.waiting, word);
@@ -607,6 +649,16 @@ fn first_of<'a, S: AsStr>(words: &'a [S]) -> Option<&'a str>
     }
 }
 
+/// The value of an option: what follows `=`, if that is after its name, or the next word.
+fn value_or_next<'a, S: AsStr>(value: Option<&'a str>, words: &'a [S]) -> Option<&'a str>
+    ensures { option_map (λ s. s.now) result ≡ value_or_next (option_map (λ s. s.now) value.entry) (map S.text words.now) }
+{
+    match value {
+        Some(value) => Some(value),
+        None => first_of(words),
+    }
+}
+
 /// The value of the option of this name, which follows `=` in this word or is the next one, if the word names the option.
 fn value_of<'a, S: AsStr>(name: &str, word: &'a str, words: &'a [S]) -> Option<Option<&'a str>>
     ensures { option_map (λ v. option_map (λ s. s.now) v) result ≡ value_of name.now (long_of word.now) (map S.text words.now) }
@@ -615,10 +667,7 @@ fn value_of<'a, S: AsStr>(name: &str, word: &'a str, words: &'a [S]) -> Option<O
     if found != name {
         return None;
     }
-    match value {
-        Some(value) => Some(Some(value)),
-        None => Some(first_of(words)),
-    }
+    Some(value_or_next(value, words))
 }
 
 /// The same, or that there is none, where this word settles it: after `--` there are no options.

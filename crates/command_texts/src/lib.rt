@@ -17,7 +17,10 @@ use std::convert::AsStr;
 const VERSION: &str = "0.3.5 (rattle-kit-13f)";
 
 /// The formats in which a trace may be written.
-const FORMATS: [&str; 3] = ["text", "chrome", "html"];
+const FORMATS: [&str; 4] = ["text", "chrome", "html", "json"];
+
+/// The formats in which lines may be written.
+const LINE_FORMATS: [&str; 2] = ["text", "json"];
 
 /// The end of the program's help.
 const AFTER: &str = "\
@@ -296,6 +299,17 @@ fn with_quiet<'a>(alloc: Global, command: Command<'a>) -> Result<Command<'a>, Al
     command.arg(quiet)
 }
 
+/// The option that says how lines are written. It is for a file.
+fn with_format<'a>(alloc: Global, command: Command<'a>) -> Result<Command<'a>, AllocError> {
+    let format = Arg::new(alloc, "format")
+        .long("format")
+        .value_name("FORMAT")
+        .value_parser(ValueParser::Names(&LINE_FORMATS))
+        .requires_arg("FILE")?
+        .help("text: lines, as without this; json: of FILE, all that is printed as one object");
+    command.arg(format)
+}
+
 /// The option that prints the map of the code. It is for a file.
 fn with_code_map<'a>(alloc: Global, command: Command<'a>) -> Result<Command<'a>, AllocError> {
     let map = Arg::new(alloc, "map")
@@ -350,6 +364,7 @@ fn lower_command<'a>(alloc: Global) -> Result<Command<'a>, AllocError> {
         .after_help(AFTER_LOWER)
         .arg(map)?
         .arg(file(alloc, "a file with a program; - for standard input"))?;
+    let command = with_format(alloc, command)?;
     with_quiet(alloc, command)
 }
 
@@ -368,6 +383,7 @@ fn run_command<'a>(
     let frames = frames_or_enough(alloc, defaults, enough);
     let command = with_run_options(alloc, command, frames, defaults)?;
     let command = with_report_options(alloc, command, has_bad_grid)?;
+    let command = with_format(alloc, command)?;
     with_quiet(alloc, command)
 }
 
@@ -405,6 +421,7 @@ fn mean_command<'a>(
         .arg(steps)?;
     let command = with_file_and_inputs(alloc, command)?;
     let command = with_report_options(alloc, command, has_bad_grid)?;
+    let command = with_format(alloc, command)?;
     with_quiet(alloc, command)
 }
 
@@ -440,7 +457,11 @@ fn dot_command<'a>(alloc: Global) -> Result<Command<'a>, AllocError> {
     with_quiet(alloc, command)
 }
 
-fn trace_command<'a>(alloc: Global, defaults: Defaults) -> Result<Command<'a>, AllocError> {
+fn trace_command<'a>(
+    alloc: Global,
+    defaults: Defaults,
+    is_json: bool,
+) -> Result<Command<'a>, AllocError> {
     let last = Arg::new(alloc, "last")
         .long("last")
         .value_name("N")
@@ -452,8 +473,13 @@ fn trace_command<'a>(alloc: Global, defaults: Defaults) -> Result<Command<'a>, A
         .value_parser(ValueParser::Names(&FORMATS))
         .default_value("text")
         .help(
-            "text: a line for each event, then the report; chrome: Trace Event JSON; html: a page that shows the run",
+            "text: a line for each event, then the report; chrome: Trace Event JSON; html: a page that shows the run; json: of FILE, the events and the report as one object",
         );
+    let format = if is_json {
+        format.requires_arg("FILE")?
+    } else {
+        format
+    };
     let command = Command::new(alloc, "trace")
         .about(
             "Runs a program or a graph of FILE, or a graph on standard input, followed by its inputs, and prints the events",
@@ -490,6 +516,7 @@ fn profile_command<'a>(alloc: Global, defaults: Defaults) -> Result<Command<'a>,
         .arg(take(alloc, defaults))?
         .arg(svg)?;
     let command = with_file_and_inputs(alloc, command)?;
+    let command = with_format(alloc, command)?;
     with_quiet(alloc, command)
 }
 
@@ -511,6 +538,7 @@ fn orders_command<'a>(
         .arg(number(alloc, "seed", "1", "which orders"))?;
     let command = with_file_and_inputs(alloc, command)?;
     let command = with_report_options(alloc, command, has_bad_grid)?;
+    let command = with_format(alloc, command)?;
     with_quiet(alloc, command)
 }
 
@@ -520,6 +548,11 @@ fn has_bad_grid<S: AsStr>(words: &[S]) -> bool {
         Some(value) => !is_grid(value),
         None => false,
     }
+}
+
+/// Whether these words give `--format` the value `json`.
+fn is_json<S: AsStr>(words: &[S]) -> bool {
+    option_value("format", words) == Some("json")
 }
 
 /// Whether these words give `--frames` the value `enough`.
@@ -570,7 +603,7 @@ pub fn program_command<'a, S: AsStr>(
         .version(VERSION)
         .subcommand_required(true)
         .subcommand(lower_command(alloc)?)?
-        .subcommand(with_quiet(alloc, check)?)?
+        .subcommand(with_quiet(alloc, with_format(alloc, check)?)?)?
         .subcommand(with_quiet(alloc, compile)?)?
         .subcommand(dis_command(alloc)?)?
         .subcommand(asm)?
@@ -579,7 +612,7 @@ pub fn program_command<'a, S: AsStr>(
         .subcommand(exec_command(alloc, defaults)?)?
         .subcommand(mean_command(alloc, defaults, bad_grid)?)?
         .subcommand(run_command(alloc, defaults, has_enough(words), bad_grid)?)?
-        .subcommand(trace_command(alloc, defaults)?)?
+        .subcommand(trace_command(alloc, defaults, is_json(words))?)?
         .subcommand(profile_command(alloc, defaults)?)?
         .subcommand(orders_command(alloc, defaults, bad_grid)?)
 }

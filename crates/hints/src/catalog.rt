@@ -168,17 +168,17 @@ other/object/listing: standard input is an object: `ets dis` makes a listing of 
 other/listing/graph: standard input is a listing, and `ets $1` reads a graph; `ets asm` makes an object of a listing
 other/listing/program: standard input is a listing, and `ets $1` reads a program; `ets asm` makes an object of a listing
 other/listing/object: standard input is a listing: `ets asm` makes an object of it
-options/run: the options of `ets $1` are --elements N (1 to 16), --frames N (1 to 1024) or enough, --steps N (at most 4294967296), --mode one, rounds or free, --turn N (1 to 65536), --take oldest or depth, and with a file --cells A,B or none, --grid A=N and --quiet, each at most once
+options/run: the options of `ets $1` are --elements N (1 to 16), --frames N (1 to 1024) or enough, --steps N (at most 4294967296), --mode one, rounds or free, --turn N (1 to 65536), --take oldest or depth, and with a file --cells A,B or none, --grid A=N, --format text or json, and --quiet, each at most once
 options/exec: the options of `ets $1` are --elements N (1 to 16), --frames N (1 to 1024), --steps N (at most 4294967296), --mode one, rounds or free, --turn N (1 to 65536), and --take oldest or depth, each at most once; all other words are a file and inputs
-options/trace: the options of `ets $1` are --last N, --format text, chrome or html, --elements N (1 to 16), --frames N (1 to 1024), --steps N (at most 4294967296), --mode one, rounds or free, --turn N (1 to 65536), --take oldest or depth, and with a file --quiet, each at most once
-options/profile: the options of `ets $1` are --elements N,N,.. (each 1 to 16), --frames N (1 to 1024), --steps N (at most 4294967296), --take oldest or depth, --svg, and with a file --quiet, each at most once
-options/orders: the options of `ets $1` are --count N, --seed N, --elements N (1 to 16), --frames N (1 to 1024), --steps N (at most 4294967296), --take oldest, and with a file --cells A,B or none, --grid A=N and --quiet, each at most once
-options/mean: the options of `ets $1` are --steps N, and with a file --cells A,B or none, --grid A=N and --quiet, each at most once
+options/trace: the options of `ets $1` are --last N, --format text, chrome, html, or of a file json, --elements N (1 to 16), --frames N (1 to 1024), --steps N (at most 4294967296), --mode one, rounds or free, --turn N (1 to 65536), --take oldest or depth, and with a file --quiet, each at most once
+options/profile: the options of `ets $1` are --elements N,N,.. (each 1 to 16), --frames N (1 to 1024), --steps N (at most 4294967296), --take oldest or depth, --svg, and with a file --format text or json, and --quiet, each at most once
+options/orders: the options of `ets $1` are --count N, --seed N, --elements N (1 to 16), --frames N (1 to 1024), --steps N (at most 4294967296), --take oldest, and with a file --cells A,B or none, --grid A=N, --format text or json, and --quiet, each at most once
+options/mean: the options of `ets $1` are --steps N, and with a file --cells A,B or none, --grid A=N, --format text or json, and --quiet, each at most once
 options/dis: the options of `ets $1` are --literals, and with a file --map and --quiet, each at most once
 options/dot: the options of `ets $1` are --code, and with a file --quiet, each at most once
-options/lower: the options of `ets $1` are --map, and with a file --quiet, each at most once
+options/lower: the options of `ets $1` are --map, and with a file --format text or json, and --quiet, each at most once
 options/compile: the options of `ets $1` are --map and --quiet, with a file, each at most once; it reads a file, `ets $1 FILE`, or standard input, `ets $1 < FILE`
-options/check: the option of `ets $1` is --quiet, with a file, at most once; it reads a file, `ets $1 FILE`, or standard input, `ets $1 < FILE`
+options/check: the options of `ets $1` are --format text or json and --quiet, with a file, each at most once; it reads a file, `ets $1 FILE`, or standard input, `ets $1 < FILE`
 outer/array: array NAME LEN
 outer/block: block NAME INPUTS OUTPUTS
 outer/main: main NAME

@@ -130,6 +130,8 @@ fn format_in(word: &str) -> Option<Format> {
         Some(Format::Events(EventFormat::Chrome))
     } else if word == "html" {
         Some(Format::Html)
+    } else if word == "json" {
+        Some(Format::Events(EventFormat::Lines))
     } else {
         None
     }
@@ -178,6 +180,7 @@ fn request_in(matches: &ArgMatches<'_>) -> Option<Request> {
         Some(("run", run)) => run_in(run),
         Some(("check", _)) => Some(Request::Check),
         Some(("compile", _)) => Some(Request::Compile),
+        Some(("dis", dis)) if dis.get_flag("map") => Some(Request::Compile),
         Some(("dis", dis)) => Some(Request::Dis {
             literals: literals_in(dis),
         }),
@@ -271,11 +274,19 @@ fn are_options_read(
     let cells = option_value("cells", words);
     let grid = option_value("grid", words);
     let is_quiet = may_warn(command) && matches.get_flag("quiet");
+    let is_format = match command {
+        "run" | "mean" | "check" | "profile" | "orders" | "lower" => {
+            matches.get_str("format").is_some()
+        }
+        "trace" => matches.get_str("format") == Some("json"),
+        _ => false,
+    };
     let is_map = matches!(command, "compile" | "dis") && matches.get_flag("map");
     options.cells == cells.is_some()
         && options.grid == grid.is_some()
         && options.quiet == is_quiet
         && options.map == is_map
+        && options.format == is_format
         && (!options.cells || matches.get_str("cells") == cells)
         && (!options.grid || matches.get_str("grid") == grid)
 }

@@ -155,7 +155,7 @@ const MEASURES: [&str; 22] = [
 ];
 
 /// Options of a file, and what may be between them.
-const FILE_OPTIONS: [&str; 17] = [
+const FILE_OPTIONS: [&str; 20] = [
     "--cells",
     "--cells A",
     "--cells=A,B",
@@ -168,6 +168,9 @@ const FILE_OPTIONS: [&str; 17] = [
     "--quiet",
     "--quiet=x",
     "--map",
+    "--format json",
+    "--format=text",
+    "--format=html",
     "--frames=21",
     "--",
     "3",
@@ -176,7 +179,7 @@ const FILE_OPTIONS: [&str; 17] = [
 ];
 
 /// Words before them.
-const BEFORE_FILE_OPTIONS: [&str; 10] = [
+const BEFORE_FILE_OPTIONS: [&str; 12] = [
     "ets run",
     "ets run p.df",
     "ets mean p.df",
@@ -185,6 +188,8 @@ const BEFORE_FILE_OPTIONS: [&str; 10] = [
     "ets lower p.df",
     "ets compile p.df",
     "ets dis p.df",
+    "ets trace",
+    "ets trace p.df",
     "ets exec",
     "ets exec p.o",
 ];
