@@ -9,8 +9,12 @@ typedef unsigned char byte;
 #define HOST(name) __attribute__((import_module("host"), import_name(#name)))
 // Copies word `at` of the command line to `place`. Its length, -1 where there is no such word, or -2 where it is longer than `room`.
 HOST(word) extern int host_word(int at, unsigned place, unsigned room);
-// Copies at most `room` bytes of the input to `place`, and says how many: 0 at its end.
-HOST(read) extern int host_read(unsigned place, unsigned room);
+// Opens the file of this name, after which is a 0 byte: its number, 3 or more, or the number of an error, negative.
+HOST(open) extern int host_open(unsigned name);
+// Closes a file.
+HOST(close) extern void host_close(int file);
+// Copies at most `room` bytes of the input (0) or of an open file to `place`, and says how many: 0 at its end. Or the number of an error, negative.
+HOST(read) extern int host_read(int from, unsigned place, unsigned room);
 // Takes bytes for standard output (1) or standard error (2). How many, or the number of an error, negative.
 HOST(write) extern int host_write(int to, unsigned place, unsigned length);
 // Ends the run.
@@ -23,7 +27,7 @@ __attribute__((export_name("run"))) int run(void) { return ets_main(); }
 // ---- Memory: the allocator of the C library.
 // Blocks have classes of size, four to a doubling. A block that is given back waits in the list of its class. The 16 bytes before a block have its class.
 
-enum { HEAD = 16, EAGAIN = 11, EBADF = 9, ERANGE = 34, ESRCH = 3, PAGE = 65536 };
+enum { HEAD = 16, EAGAIN = 11, ERANGE = 34, ESRCH = 3, PAGE = 65536 };
 #define MOST 0xf0000000ul
 
 struct block { size_t class; struct block *next; };
@@ -150,9 +154,22 @@ long rattle_env(const void *name, void *place, size_t room) { return -1; }
 // environ, one entry: there is none.
 long rattle_env_at(size_t at, void *place, size_t room) { return -1; }
 
-// read, of standard input alone
+// open: a file is only read.
+int open(const char *name, int how, ...) {
+  int file = host_open((unsigned)(size_t)name);
+  return file < 0 ? (int)failed(-file) : file;
+}
+
+// close
+int close(int file) {
+  host_close(file);
+  return 0;
+}
+
+// read
 long read(int from, void *place, size_t room) {
-  return from != 0 ? failed(EBADF) : host_read((unsigned)(size_t)place, room > MOST / 4 ? (unsigned)(MOST / 4) : (unsigned)room);
+  int came = host_read(from, (unsigned)(size_t)place, room > MOST / 4 ? (unsigned)(MOST / 4) : (unsigned)room);
+  return came < 0 ? failed(-came) : came;
 }
 
 // write, to standard output and standard error alone

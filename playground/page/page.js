@@ -3,7 +3,8 @@
 const at = (id) => document.getElementById(id);
 const data = JSON.parse(at('data').textContent);
 const DEEDS = ['run', 'graph', 'trace', 'profile', 'orders'], SIZES = ['elements', 'frames', 'steps', 'take'];
-const USUAL = { elements: '1', frames: '256', steps: '1000000', take: 'oldest' };          // what `ets` takes where nothing is said
+const USUAL = { elements: '1', frames: '256', steps: '1000000', take: 'oldest' };          // what `ets` takes of standard input, where nothing is said
+const FILED = { elements: '1', frames: '1024', steps: '4294967296', take: 'depth' };       // and what it takes of a file
 const GENEROUS = { elements: '1', frames: '1024', steps: '100000000', take: 'depth' };     // what this page takes first
 const LAST = '20000';                                                                      // of a long run, how many events are shown
 
@@ -40,11 +41,11 @@ function startWorker() {
   };
 }
 
-// Runs commands, the first of them on the text. Nothing answers where they are stopped.
-function ask(commands, text) {
+// Runs commands over these files. Nothing answers where they are stopped.
+function ask(commands, files) {
   return new Promise((answer) => {
     worker.waits = { id: ++worker.count, answer };
-    worker.it.postMessage({ id: worker.count, commands, text });
+    worker.it.postMessage({ id: worker.count, commands, files });
   });
 }
 
@@ -156,22 +157,24 @@ function setProgram({ text, inputs }, given) {
 
 const program = () => at('program').value.replace(/\n*$/, '\n');
 
-// The program and its inputs, as the first command reads them.
+// The file that commands read.
+const fileName = () => isGraph() ? 'graph.ets' : 'program.df';
+
+// The file with the inputs after it, unless it has inputs of its own.
 function given() {
-  const inputs = at('inputs').value.trim().split(/[\s,]+/).filter((it) => it);
-  if (hasInputs()) return program();
-  return program() + (isGraph() ? '' : 'inputs\n') + inputs.map((it) => it + '\n').join('');
+  const inputs = hasInputs() ? [] : at('inputs').value.trim().split(/[\s,]+/).filter((it) => it);
+  return [...inputs.some((it) => it.startsWith('-')) ? ['--'] : [], fileName(), ...inputs];
 }
 
 // The options that differ from what `ets` takes where nothing is said.
-const options = (...names) => names.flatMap((it) => at(it).value === USUAL[it] ? [] : [`--${it}`, at(it).value]);
+const options = (...names) => names.flatMap((it) => at(it).value === FILED[it] ? [] : [`--${it}`, at(it).value]);
 
 const COMMANDS = {
-  run: () => ['run', ...options(...SIZES)],
-  graph: () => null,
-  trace: () => ['trace', '--format', 'html', '--last', LAST, ...options(...SIZES)],
-  profile: () => ['profile', '--svg', ...options('frames', 'steps')],
-  orders: () => ['orders', ...options('elements', 'frames', 'steps')],
+  run: () => ['run', ...options(...SIZES), ...given()],
+  graph: () => [isGraph() ? 'check' : 'lower', fileName()],
+  trace: () => ['trace', '--format', 'html', '--last', LAST, ...options(...SIZES), ...given()],
+  profile: () => ['profile', '--svg', ...options('frames', 'steps'), ...given()],
+  orders: () => ['orders', ...options('elements', 'frames', 'steps'), ...given()],
 };
 
 // ---- Deeds
@@ -186,8 +189,7 @@ async function act(which, isAsked = false) {
   for (const it of DEEDS) at(it).setAttribute('aria-pressed', it === which);
   setMark(0);
   at('inputs').removeAttribute('aria-invalid');
-  const last = COMMANDS[which](), commands = isGraph() ? [last ?? ['check']] : [['lower'], ...last ? [last] : []];
-  const text = last || !isGraph() ? given() : program();
+  const command = COMMANDS[which](), text = program(), files = { [fileName()]: text };
   const begun = performance.now();
   at('stop').disabled = false;
   document.body.classList.add('busy');
@@ -195,21 +197,21 @@ async function act(which, isAsked = false) {
   clearInterval(worker.clock);
   worker.clock = setInterval(() => say(`Running … ${((performance.now() - begun) / 1000).toFixed(0)} s`), 1000);
   save();
-  const { done, took } = await ask(commands, text), end = done[done.length - 1], isAll = done.length === commands.length;
-  const places = end.trap || isGraph() || !isAll ? new Map() : await placesOf(text);
+  const { done: [end], took } = await ask([command], files), isRefused = end.out.startsWith('refused:');
+  const places = end.trap || isGraph() || isRefused ? new Map() : await placesOf(files);
   rest();
-  say(make('code', { textContent: commands.map((it) => ['ets', ...it].join(' ')).join(' | ') }), ` · ${took < 1000 ? `${took.toFixed(0)} ms` : `${(took / 1000).toFixed(1)} s`}`);
+  say(make('code', { textContent: ['ets', ...command].join(' ') }), ` · ${took < 1000 ? `${took.toFixed(0)} ms` : `${(took / 1000).toFixed(1)} s`}`);
   const out = at('out');
   out.className = which;
   out.scrollTop = 0;
   out.replaceChildren();
   if (end.trap) out.append(make('p', { className: 'end bad', textContent: `The module broke off, which it should not: ${end.trap}. Too little memory is the likely cause.` }));
-  else if (end.out.startsWith('refused:')) tellRefusal(end, isAll && !isGraph());
-  else if (which === 'trace' && isAll) out.append(traceOf(end.out));
+  else if (isRefused) tellRefusal(end);
+  else if (which === 'trace' && end.out) out.append(traceOf(end.out));
   else if (which === 'profile' && end.out.includes('<svg')) out.append(document.importNode(new DOMParser().parseFromString(end.out, 'image/svg+xml').documentElement, true));
   else if (which === 'graph') drawGraph(isGraph() ? text : end.out, places);
   else tellReport(end.out, places);
-  if (!end.out.startsWith('refused:') && end.err) {
+  if (!isRefused && end.err) {
     const note = make('div', { className: 'note', textContent: plain(end.err) }), verdict = out.querySelector('.end');
     if (verdict) verdict.after(note);
     else out.prepend(note);
@@ -221,16 +223,17 @@ async function act(which, isAsked = false) {
 const plain = (err) => err.trimEnd().replace(/^hint: /gm, '').replace(/^line \d+ is `.*`(; at column \d+ is `.*`)?\n/m, '');
 
 // The place in the program of each node: `at BLOCK NODE line LINE column COLUMN`.
-async function placesOf(text) {
-  const { done } = await ask([['lower', '--map']], text);
+async function placesOf(files) {
+  const { done } = await ask([['lower', '--map', fileName()]], files);
   return new Map(Array.from(done[0].out.matchAll(/^at (\d+) (\d+) line (\d+) column (\d+)$/gm), ([, block, node, line, column]) => [`${block} ${node}`, [+line, +column]]));
 }
 
-// A refusal: a mark in the editor, and the hint below it. What `run` refuses of what `lower` made are the inputs or the machine.
-function tellRefusal({ out, err }, isAfterLower) {
-  const first = out.split('\n')[0], text = plain(err), found = isAfterLower ? null : /\bline (\d+)(?:,? column (\d+))?/.exec(first) ?? /\bline (\d+)/.exec(text);
+// A refusal: a mark in the editor, and the hint below it. What is refused of a good program are the inputs or the machine.
+function tellRefusal({ out, err }) {
+  const first = out.split('\n')[0], text = plain(err), isOfProgram = /^refused: (program|read|check) /.test(first);
+  const found = !isOfProgram ? null : /\bline (\d+)(?:,? column (\d+))?/.exec(first) ?? /\bline (\d+)/.exec(text);
   const [line, column] = found ? [+found[1], +(found[2] ?? 0)] : [0, 0];
-  if (isAfterLower && !/memory/.test(first)) at('inputs').setAttribute('aria-invalid', true);
+  if (!isOfProgram && !/memory/i.test(first)) at('inputs').setAttribute('aria-invalid', true);
   setMark(line, column, text || first);
   at('out').append(make('p', { className: 'end bad', textContent: 'Refused: ' + (line ? `there is a mistake in line ${line}.` : 'it cannot be run.') }), make('pre', { textContent: first }));
 }

@@ -1,13 +1,16 @@
-// Runs commands of `ets`, each on what the one before it printed. It is called with a compiled module, and then with {id, commands, text}: it
-// answers {id, done, took}, where `done` has what each command did, as far as the commands ended with status 0.
+// Runs commands of `ets`, each on what the one before it printed. It is called with a compiled module, and then with {id, commands, text, files}: it
+// answers {id, done, took}, where `done` has what each command did, as far as the commands ended with status 0. `files` has the text of each file
+// by its name.
 
 let compiled;
 
-// One command: its exit status, and the bytes of both streams. `trap` says why it ended, where that was no exit.
-function runCommand(module, words, input) {
+// One command: its exit status, and the bytes of both streams. `trap` says why it ended, where that was no exit. `files` has the bytes of each file
+// by its name, and null for a folder.
+function runCommand(module, words, input, files = {}) {
   const given = ['ets', ...words].map((it) => typeof it === 'string' ? new TextEncoder().encode(it) : it);
   const streams = [[], []], ended = {};
-  let at = 0, status = -1, trap = null, memory = null;
+  const open = [{ it: input, at: 0 }, null, null];  // standard input, and the files that are open
+  let status = -1, trap = null, memory = null;
   const bytes = (place, length) => new Uint8Array(memory.buffer, place >>> 0, length >>> 0);
   const host = {
     word(number, place, room) {
@@ -17,10 +20,20 @@ function runCommand(module, words, input) {
       bytes(place, it.length).set(it);
       return it.length;
     },
-    read(place, room) {
-      const piece = input.subarray(at, at + (room >>> 0));
+    open(name) {
+      const all = new Uint8Array(memory.buffer), from = name >>> 0, it = files[new TextDecoder().decode(all.slice(from, all.indexOf(0, from)))];
+      return it === undefined ? -2 : open.push({ it, at: 0 }) - 1;
+    },
+    close(number) {
+      open[number] = null;
+    },
+    read(number, place, room) {
+      const from = open[number];
+      if (!from) return -9;
+      if (from.it === null) return -21;
+      const piece = from.it.subarray(from.at, from.at + (room >>> 0));
       bytes(place, piece.length).set(piece);
-      at += piece.length;
+      from.at += piece.length;
       return piece.length;
     },
     write(to, place, length) {
@@ -59,9 +72,10 @@ onmessage = ({ data }) => {
     return;
   }
   const begun = performance.now(), done = [], text = new TextDecoder();
-  let input = new TextEncoder().encode(data.text);
+  const files = Object.fromEntries(Object.entries(data.files ?? {}).map(([name, it]) => [name, new TextEncoder().encode(it)]));
+  let input = new TextEncoder().encode(data.text ?? '');
   for (const words of data.commands) {
-    const { status, trap, out, err } = runCommand(compiled, words, input);
+    const { status, trap, out, err } = runCommand(compiled, words, input, files);
     done.push({ words, status, trap, out: text.decode(out), err: text.decode(err) });
     input = out;
     if (status !== 0) break;
