@@ -1,5 +1,8 @@
-//! The map of a file's code: for each instruction the node of the graph for which it was made, and for a program the place in it, too.
+//! The map of a file's code: for each instruction the node of the graph for which it was made, and for a program the place in it, too; as
+//! text, and in the page of a run.
 #![tactic(auto)]
+
+mod page;
 
 ghost use Rattle.std.specs.Prelude.{◌≡◌, List, MatchResult, ℕ};
 ghost use Rattle.semantics.specs.Graph.{flow_of};
@@ -25,6 +28,7 @@ use lowering::Named;
 use map_text::{ProgramPlaces, write_code_map};
 use object_view::OwnedObject;
 use outcomes::{Outcome, Refusal};
+pub use page::print_file_page;
 use programs::compiling::check_good;
 use std::alloc::Allocator;
 use std::io::{self, Write};
