@@ -3,11 +3,11 @@
 
 usage: examples/expected.py [ETS [FOLDER]]
 
-With no word it prints the table `expected.txt`: on each line a program, its inputs, `=`, and its outputs. Each is computed here by another way than that of
-the program where there is one: by a library, a closed formula, a search through all cases, or a list that was published.
+With no word it prints the table `expected.txt`: on each line a program, its inputs, `=`, and its outputs. Each is computed here in another way than by
+the program if there is one: by a library, a closed formula, a search through all cases, or a list that was published.
 With the program ETS it compares the table with the file, and runs each line with no option but its inputs: `ets run NAME.df INPUTS`. Each run has to come to
 rest with these outputs, with no reader and no request that waits, and with no frame that is out. FOLDER has the programs, if another one is meant.
-The last line is `N passed, M failed`. The exit status is 0 where none failed, 1 where one did, and 2 where there is no such program.
+The last line is `N passed, M failed`. The exit status is 0 if none failed, 1 if one did, and 2 if there is no such program.
 """
 import functools
 import itertools
