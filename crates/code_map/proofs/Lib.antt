@@ -1,6 +1,7 @@
 mod Carry
 mod Closing
 mod Codes
+mod Counted
 mod Examples
 mod Inside
 mod Lengths

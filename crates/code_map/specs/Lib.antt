@@ -1,6 +1,7 @@
 pub mod Parts
 pub mod Owners
 pub mod Carried
+pub mod Uses
 pub mod Counts
 pub mod Ends
 pub mod Joins
