@@ -24,3 +24,4 @@ pub mod RenamedFlags
 pub mod Compared
 pub mod ComparedFlags
 pub mod Numbers
+pub mod Placed

@@ -15,6 +15,7 @@
 #![tactic(auto)]
 
 ghost use Rattle.desugar.specs.NumbersDesugar.{NumbersDesugar};
+ghost use Rattle.desugar.specs.PlacedWords.{WordsArePlaced};
 ghost use Rattle.desugar.specs.StepsDesugar.{StepsDesugar};
 
 pub mod frame;
@@ -28,4 +29,10 @@ pub fn words_are_desugared()
 /// table begins as the hidden ones do.
 pub fn numbers_are_desugared()
     ensures law { NumbersDesugar }
+{}
+
+/// The words of a program of the core, each with the place that the pass over them finds for it, are those of the program with
+/// places of its own.
+pub fn words_are_placed()
+    ensures law { WordsArePlaced }
 {}
