@@ -25,3 +25,4 @@ pub mod Compared
 pub mod ComparedFlags
 pub mod Numbers
 pub mod Placed
+pub mod PlacedNumbers

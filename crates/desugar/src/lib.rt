@@ -15,7 +15,7 @@
 #![tactic(auto)]
 
 ghost use Rattle.desugar.specs.NumbersDesugar.{NumbersDesugar};
-ghost use Rattle.desugar.specs.PlacedWords.{WordsArePlaced};
+ghost use Rattle.desugar.specs.PlacedWords.{NumbersArePlaced, PlacesAreTabled, WordsArePlaced};
 ghost use Rattle.desugar.specs.StepsDesugar.{StepsDesugar};
 
 pub mod frame;
@@ -32,7 +32,9 @@ pub fn numbers_are_desugared()
 {}
 
 /// The words of a program of the core, each with the place that the pass over them finds for it, are those of the program with
-/// places of its own.
+/// places of its own: with names, and with numbers of a table of names. The places that they had are its table of places.
 pub fn words_are_placed()
-    ensures law { WordsArePlaced }
+    ensures words { WordsArePlaced }
+    ensures numbers { NumbersArePlaced }
+    ensures places { PlacesAreTabled }
 {}
