@@ -26,3 +26,5 @@ pub mod ComparedFlags
 pub mod Numbers
 pub mod Placed
 pub mod PlacedNumbers
+pub mod HiddenTable
+pub mod TextTables

@@ -17,6 +17,7 @@
 ghost use Rattle.desugar.specs.NumbersDesugar.{NumbersDesugar};
 ghost use Rattle.desugar.specs.PlacedWords.{NumbersArePlaced, PlacesAreTabled, WordsArePlaced};
 ghost use Rattle.desugar.specs.StepsDesugar.{StepsDesugar};
+ghost use Rattle.desugar.specs.Tables.{AllAreReached, HiddenNamesAreNew, PrefixIsFound, TablesAreFree};
 
 pub mod frame;
 
@@ -37,4 +38,17 @@ pub fn words_are_placed()
     ensures words { WordsArePlaced }
     ensures numbers { NumbersArePlaced }
     ensures places { PlacesAreTabled }
+{}
+
+/// Words that name those of a core program are its words under a table that has the hidden names after those of the text: each
+/// name is there once. The table is as long as the numbers ask.
+pub fn hidden_names_are_new()
+    ensures length { AllAreReached }
+    ensures words { HiddenNamesAreNew }
+{}
+
+/// No name of a text's table begins as the hidden ones do, and the prefix that is free among these is that of the text.
+pub fn tables_are_free()
+    ensures free { TablesAreFree }
+    ensures prefix { PrefixIsFound }
 {}

@@ -1,0 +1,5 @@
+use Rattle.desugar.proofs.TextTables.{tables_are_free, prefix_is_found}
+use Rattle.desugar.proofs.tables_are_free.Goals as goal
+
+pub returns : goal.returns
+returns c = record { free = tables_are_free; prefix = prefix_is_found }
