@@ -28,3 +28,4 @@ pub mod Placed
 pub mod PlacedNumbers
 pub mod HiddenTable
 pub mod TextTables
+pub mod HiddenSpelled

@@ -52,7 +52,7 @@ HiddenNamesAreNew = (names : List Name) (prefix : Name) (count : ℕ) (ws : List
 
 -- A hidden name is as texts have names, where it is not too long.
 abbrev pub HiddenNamesAreSpelled : Type 0
-HiddenNamesAreSpelled = (names : List Name) (n : ℕ) → length (hidden (hidden_prefix names) n) ≤ 24 → IsSpelledName (hidden (hidden_prefix names) n)
+HiddenNamesAreSpelled = (names : List Name) (n : ℕ) → length names < 2 ^ 64 → n + 1 < 2 ^ 64 → length (hidden (hidden_prefix names) n) ≤ 24 → IsSpelledName (hidden (hidden_prefix names) n)
 
 -- A TEXT'S NAMES AND A TABLE'S. The table of a text that was read has those of the text, and no others.
 pub record IsTableOf (names : List Name) (p : Program) : Type 0 where

@@ -17,7 +17,7 @@
 ghost use Rattle.desugar.specs.NumbersDesugar.{NumbersDesugar};
 ghost use Rattle.desugar.specs.PlacedWords.{NumbersArePlaced, PlacesAreTabled, WordsArePlaced};
 ghost use Rattle.desugar.specs.StepsDesugar.{StepsDesugar};
-ghost use Rattle.desugar.specs.Tables.{AllAreReached, HiddenNamesAreNew, PrefixIsFound, TablesAreFree};
+ghost use Rattle.desugar.specs.Tables.{AllAreReached, HiddenNamesAreNew, HiddenNamesAreSpelled, PrefixIsFound, TablesAreFree};
 
 pub mod frame;
 
@@ -41,10 +41,11 @@ pub fn words_are_placed()
 {}
 
 /// Words that name those of a core program are its words under a table that has the hidden names after those of the text: each
-/// name is there once. The table is as long as the numbers ask.
+/// name is there once. The table is as long as the numbers ask. A hidden name of at most 24 bytes is one that texts may have.
 pub fn hidden_names_are_new()
     ensures length { AllAreReached }
     ensures words { HiddenNamesAreNew }
+    ensures spelled { HiddenNamesAreSpelled }
 {}
 
 /// No name of a text's table begins as the hidden ones do, and the prefix that is free among these is that of the text.
