@@ -29,3 +29,4 @@ pub mod PlacedNumbers
 pub mod HiddenTable
 pub mod TextTables
 pub mod HiddenSpelled
+pub mod CoreMade

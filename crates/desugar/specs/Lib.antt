@@ -8,3 +8,4 @@ pub mod NumbersDesugar
 pub mod Placing
 pub mod PlacedWords
 pub mod Tables
+pub mod CoreMade

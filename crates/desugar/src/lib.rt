@@ -14,6 +14,7 @@
 //! enough that they are no names of the table, since names are compared only with names of the words (`Compared`, `ComparedFlags`).
 #![tactic(auto)]
 
+ghost use Rattle.desugar.specs.CoreMade.{PlainIsMade, TableIsSpelled};
 ghost use Rattle.desugar.specs.NumbersDesugar.{NumbersDesugar};
 ghost use Rattle.desugar.specs.PlacedWords.{NumbersArePlaced, PlacesAreTabled, WordsArePlaced};
 ghost use Rattle.desugar.specs.StepsDesugar.{StepsDesugar};
@@ -52,4 +53,11 @@ pub fn hidden_names_are_new()
 pub fn tables_are_free()
     ensures free { TablesAreFree }
     ensures prefix { PrefixIsFound }
+{}
+
+/// What the steps make of a plain program with numbers for names is its core program, under a table that has the hidden names
+/// after those of the text, also with places of its own. Each name of the table is one that texts may have.
+pub fn core_is_made()
+    ensures words { PlainIsMade }
+    ensures spelled { TableIsSpelled }
 {}
