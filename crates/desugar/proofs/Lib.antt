@@ -30,3 +30,4 @@ pub mod HiddenTable
 pub mod TextTables
 pub mod HiddenSpelled
 pub mod CoreMade
+pub mod TextNames

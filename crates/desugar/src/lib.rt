@@ -18,7 +18,7 @@ ghost use Rattle.desugar.specs.CoreMade.{PlainIsMade, TableIsSpelled};
 ghost use Rattle.desugar.specs.NumbersDesugar.{NumbersDesugar};
 ghost use Rattle.desugar.specs.PlacedWords.{NumbersArePlaced, PlacesAreTabled, WordsArePlaced};
 ghost use Rattle.desugar.specs.StepsDesugar.{StepsDesugar};
-ghost use Rattle.desugar.specs.Tables.{AllAreReached, HiddenNamesAreNew, HiddenNamesAreSpelled, PrefixIsFound, TablesAreFree};
+ghost use Rattle.desugar.specs.Tables.{AllAreReached, HiddenNamesAreNew, HiddenNamesAreSpelled, PrefixIsFound, TablesAreFree, WordsHaveAllNames};
 
 pub mod frame;
 
@@ -49,8 +49,10 @@ pub fn hidden_names_are_new()
     ensures spelled { HiddenNamesAreSpelled }
 {}
 
-/// No name of a text's table begins as the hidden ones do, and the prefix that is free among these is that of the text.
+/// A program's table has each name of its text. No name of it begins as the hidden ones do, where all are names of the text, and the
+/// prefix that is free among these is that of the text.
 pub fn tables_are_free()
+    ensures names { WordsHaveAllNames }
     ensures free { TablesAreFree }
     ensures prefix { PrefixIsFound }
 {}
