@@ -31,3 +31,4 @@ pub mod TextTables
 pub mod HiddenSpelled
 pub mod CoreMade
 pub mod TextNames
+pub mod DeepSteps

@@ -9,3 +9,4 @@ pub mod Placing
 pub mod PlacedWords
 pub mod Tables
 pub mod CoreMade
+pub mod DeepSteps

@@ -15,6 +15,7 @@
 #![tactic(auto)]
 
 ghost use Rattle.desugar.specs.CoreMade.{PlainIsMade, TableIsSpelled};
+ghost use Rattle.desugar.specs.DeepSteps.{DepthIsByNumbers, DepthIsByWords};
 ghost use Rattle.desugar.specs.NumbersDesugar.{NumbersDesugar};
 ghost use Rattle.desugar.specs.PlacedWords.{NumbersArePlaced, PlacesAreTabled, WordsArePlaced};
 ghost use Rattle.desugar.specs.StepsDesugar.{StepsDesugar};
@@ -62,4 +63,10 @@ pub fn tables_are_free()
 pub fn core_is_made()
     ensures words { PlainIsMade }
     ensures spelled { TableIsSpelled }
+{}
+
+/// A pass over words from their end finds the first part of a core program with which more than 200 would be open at once.
+pub fn depth_is_by_words()
+    ensures words { DepthIsByWords }
+    ensures numbers { DepthIsByNumbers }
 {}
