@@ -63,6 +63,10 @@ pub record IsTableOf (names : List Name) (p : Program) : Type 0 where
 abbrev pub WordsHaveAllNames : Type 0
 WordsHaveAllNames = (names : List Name) (ws : List (SurfaceWord ℕ)) (p : Program) → AreWords names ws p → All (λ x. is_in x names ≡ true) (text_names p)
 
+-- and the text has no more names than there are words.
+abbrev pub NamesAreFew : Type 0
+NamesAreFew = (names : List Name) (ws : List (SurfaceWord ℕ)) (p : Program) → AreWords names ws p → length (text_names p) ≤ length ws
+
 -- no name of the table begins so, where none of the text does
 abbrev pub TablesAreFree : Type 0
 TablesAreFree = (names : List Name) (p : Program) (prefix : Name) → All (λ x. is_in x (text_names p) ≡ true) names → list_any (begins prefix) (text_names p) ≡ false
