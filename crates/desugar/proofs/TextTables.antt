@@ -1,15 +1,17 @@
 -- A TABLE of the names of a text, and what no name of it begins with.
-use Rattle.std.specs.Prelude.{◌≡◌, refl, ℕ, zero, suc, ◌+◌, ◌||◌, Bool, true, false, List, [], ◌∷◌, length, All, if◌then◌else◌}
-use Rattle.std.specs.List.{list_any}
-use Rattle.std.proofs.Common.{◌∙◌, ap, sym}
+use Rattle.std.specs.Prelude.{◌≡◌, refl, ℕ, Option, zero, suc, ◌+◌, ◌||◌, Bool, true, false, List, [], ◌∷◌, length, filter_map, All, if◌then◌else◌}
+use Rattle.std.specs.List.{list_any, cons_option}
+use Rattle.std.proofs.Common.{◌∙◌, ap, ap₂, sym}
 use Rattle.std.proofs.lemmas.List.Elements.{All-head, All-tail}
 use Rattle.semantics.specs.Graph.{same_name}
 use Rattle.semantics.proofs.Lines.{same_name_is}
 use Rattle.source.specs.Tree.{Name}
 use Rattle.source.specs.Tokens.{begins}
 use Rattle.source.specs.Outside.{is_in}
-use Rattle.surface.specs.Instances.{prefix_number, free_prefix, text_names}
-use Rattle.desugar.specs.Tables.{IsTableOf, TablesAreFree, PrefixIsFound}
+use Rattle.surface.specs.declared.token.Token.{Token}
+use Rattle.surface.specs.Spelled.{Spelling, program_tokens, AreSpelled}
+use Rattle.surface.specs.Instances.{name_said, prefix_number, free_prefix, text_names}
+use Rattle.desugar.specs.Tables.{names_said, TextNamesAreSaid, IsTableOf, TablesAreFree, PrefixIsFound}
 use Rattle.desugar.proofs.Numbers.{or_false}
 
 -- what no name of some has, none has that is one of them
@@ -59,3 +61,13 @@ as_many f xs ys h g = go (list_any f xs) refl (list_any f ys) refl
 pub prefix_is_found : PrefixIsFound
 prefix_is_found names p t h g = one_prefix names (text_names p) (λ n. as_many (begins (prefix_number n)) names (text_names p) t.said t.all) (length names)
     (length (text_names p)) 0 h g
+
+-- TOKENS that are a tree's say its names.
+said_so : (text : List ℕ) (ss : List Spelling) (ts : List Token) → AreSpelled text ss ts → filter_map (λ (s : Spelling). name_said s.lexeme) ss ≡ names_said text ts
+said_so text [] [] h = refl
+said_so text [] (t ∷ ts) h = absurd h
+said_so text (s ∷ ss) [] h = absurd h
+said_so text (s ∷ ss) (t ∷ ts) h = ap₂ (λ (o : Option Name) (xs : List Name). cons_option o xs) (sym (ap name_said h.0.0)) (said_so text ss ts h.1)
+
+pub text_names_are_said : TextNamesAreSaid
+text_names_are_said text ts p h = said_so text (program_tokens p) ts h

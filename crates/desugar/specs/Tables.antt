@@ -1,5 +1,5 @@
 -- THE TABLE OF NAMES of the core program: those of the text, and after them the hidden ones.
-use Rattle.std.specs.Prelude.{◌≡◌, ℕ, zero, suc, ◌+◌, ◌<◌, ◌≤◌, ◌^◌, true, false, max, List, [], ◌∷◌, ◌++◌, length, map, All}
+use Rattle.std.specs.Prelude.{◌≡◌, ℕ, zero, suc, ◌+◌, ◌<◌, ◌≤◌, ◌^◌, true, false, max, List, [], ◌∷◌, ◌++◌, length, map, filter_map, All}
 use Rattle.std.specs.List.{list_any}
 use Rattle.source.specs.declared.word.Word.{Word}
 use Rattle.source.specs.Tree as core
@@ -9,10 +9,12 @@ use Rattle.source.specs.Outside.{is_in}
 use Rattle.source.specs.Words as core_words
 use Rattle.source.specs.Words.{name_of, numbers_of}
 use Rattle.surface.specs.declared.word.Word.{Word as SurfaceWord}
+use Rattle.surface.specs.declared.token.Token.{Token}
 use Rattle.surface.specs.Tree.{Program}
+use Rattle.surface.specs.Spelled.{lexeme, program_tokens, AreSpelled}
 use Rattle.surface.specs.Words.{AreWords}
 use Rattle.surface.specs.Making.{hidden}
-use Rattle.surface.specs.Instances.{text_names, hidden_prefix}
+use Rattle.surface.specs.Instances.{name_said, text_names, hidden_prefix}
 use Rattle.desugar.specs.Renamed.{core_renamed}
 use Rattle.desugar.specs.NumbersDesugar.{name_with}
 
@@ -58,6 +60,13 @@ HiddenNamesAreSpelled = (names : List Name) (n : ℕ) → length names < 2 ^ 64 
 pub record IsTableOf (names : List Name) (p : Program) : Type 0 where
   pub said : All (λ x. is_in x (text_names p) ≡ true) names
   pub all : All (λ x. is_in x names ≡ true) (text_names p)
+
+-- the names that the tokens of a text say: those of the program whose tokens they are
+abbrev pub names_said : List ℕ → List Token → List Name
+names_said text ts = filter_map (λ (t : Token). name_said (lexeme text t)) ts
+
+abbrev pub TextNamesAreSaid : Type 0
+TextNamesAreSaid = (text : List ℕ) (ts : List Token) (p : Program) → AreSpelled text (program_tokens p) ts → text_names p ≡ names_said text ts
 
 -- Each name of the text is in it, since each is in a word.
 abbrev pub WordsHaveAllNames : Type 0

@@ -19,7 +19,7 @@ ghost use Rattle.desugar.specs.DeepSteps.{DepthIsByNumbers, DepthIsByWords};
 ghost use Rattle.desugar.specs.NumbersDesugar.{NumbersDesugar};
 ghost use Rattle.desugar.specs.PlacedWords.{NumbersArePlaced, PlacesAreTabled, WordsArePlaced};
 ghost use Rattle.desugar.specs.StepsDesugar.{StepsDesugar};
-ghost use Rattle.desugar.specs.Tables.{AllAreReached, HiddenNamesAreNew, HiddenNamesAreSpelled, NamesAreFew, PrefixIsFound, TablesAreFree, WordsHaveAllNames};
+ghost use Rattle.desugar.specs.Tables.{AllAreReached, HiddenNamesAreNew, HiddenNamesAreSpelled, NamesAreFew, PrefixIsFound, TablesAreFree, TextNamesAreSaid, WordsHaveAllNames};
 
 pub mod frame;
 
@@ -50,9 +50,10 @@ pub fn hidden_names_are_new()
     ensures spelled { HiddenNamesAreSpelled }
 {}
 
-/// A program's table has each name of its text, and the text has no more names than the program has words. No name of it begins as the hidden ones do, where all are names of the text, and the
+/// The names of a text are those that its tokens say. A program's table has each of them, and the text has no more names than the program has words. No name of it begins as the hidden ones do, where all are names of the text, and the
 /// prefix that is free among these is that of the text.
 pub fn tables_are_free()
+    ensures said { TextNamesAreSaid }
     ensures names { WordsHaveAllNames }
     ensures few { NamesAreFew }
     ensures free { TablesAreFree }

@@ -27,7 +27,7 @@ use Rattle.law_surface.specs.PrefixIsFree.{PrefixIsFree}
 use Rattle.law_surface.specs.SurfaceMeans.{PlacedIsGood}
 use Rattle.desugar.specs.Placing.{placed_words}
 use Rattle.desugar.specs.PlacedWords.{NumbersArePlaced, PlacesAreTabled}
-use Rattle.desugar.specs.Tables.{IsTableOf, with_hidden, WordsHaveAllNames, TablesAreFree, PrefixIsFound}
+use Rattle.desugar.specs.Tables.{IsTableOf, with_hidden, WordsHaveAllNames, NamesAreFew, TablesAreFree, PrefixIsFound}
 use Rattle.desugar.specs.CoreMade.{made_words, IsCoreMade, PlainIsMade, TableIsSpelled}
 use Rattle.law_desugar.specs.CoreIsChecked.{IsGoodCode, IsGoodCore, CodeIsGood, PrefixIsTables, IsTabled, PlainCodeIsGood}
 
@@ -54,9 +54,14 @@ words_are_checked names ws q end i h =
     is_checked names ws m.0 end m.1 (numbers_are_checked names ws m.0 end q i.fits i.words m.1 ∙ h)
 
 -- THE CORE
-pub code_is_good : GoodGivesGood → PlacedIsGood → NumbersArePlaced → PlacesAreTabled → CodeIsGood
-code_is_good gives placed_so numbers places names table ws made p q end code words spelled =
-    let good : IsGood (placed q) = placed_so q (gives p q end code.short code.few) in
+few_names : NamesAreFew → (names : List Name) (ws : List (SurfaceWord ℕ)) (p : Program) (q : core.Program) (end : ℕ) → IsGoodCode names ws p q end
+    → length (text_names p) < 2 ^ 64
+few_names fewer names ws p q end code = omega (arith, code.few, fewer names ws p code.words)
+
+pub code_is_good : NamesAreFew → GoodGivesGood → PlacedIsGood → NumbersArePlaced → PlacesAreTabled → CodeIsGood
+code_is_good fewer gives placed_so numbers places names table ws made p q end code words spelled =
+    let few : length (text_names p) < 2 ^ 64 = few_names fewer names ws p q end code in
+    let good : IsGood (placed q) = placed_so q (gives p q end code.short few) in
     let is : IsProgram table (placed_words 0 [] made) (placed q) = record { fits = good.fits; words = numbers table made q words } in
     record {
       is = is;
@@ -66,14 +71,14 @@ code_is_good gives placed_so numbers places names table ws made p q end code wor
     }
 
 -- THE PREFIX
-module _ (free : PrefixIsFree) (all : WordsHaveAllNames) (found : PrefixIsFound) where
+module _ (fewer : NamesAreFew) (free : PrefixIsFree) (all : WordsHaveAllNames) (found : PrefixIsFound) where
   pub prefix_is_tables : PrefixIsTables
   prefix_is_tables names ws p q end code few = found names p (record { said = code.said; all = all names ws p code.words }) (free names few)
-      (free (text_names p) code.few)
+      (free (text_names p) (few_names fewer names ws p q end code))
 
 -- A PLAIN PROGRAM
-pub plain_code_is_good : PrefixIsFree → TablesAreFree → PrefixIsTables → PlainIsMade → TableIsSpelled → CodeIsGood → PlainCodeIsGood
-plain_code_is_good free tables prefix makes spells gives names ws p known q end count code heads plain tabled =
+pub plain_code_is_good : NamesAreFew → PrefixIsFree → TablesAreFree → PrefixIsTables → PlainIsMade → TableIsSpelled → CodeIsGood → PlainCodeIsGood
+plain_code_is_good fewer free tables prefix makes spells gives names ws p known q end count code heads plain tabled =
     let same : hidden_prefix (text_names p) ≡ hidden_prefix names = sym (prefix names ws p q end code (omega (arith, tabled.few))) in
     go (hidden_prefix names) same tabled
   where
@@ -86,9 +91,10 @@ plain_code_is_good free tables prefix makes spells gives names ws p known q end 
         hp = hidden_prefix (text_names p)
         of_text : IsTabled names hp count (made_words names known hp ws) → IsGoodCore (with_hidden names hp count) (made_words names known hp ws) q
         of_text t =
-            let none : list_any (begins hp) names ≡ false = tables names p hp code.said (free (text_names p) code.few) in
+            let few : length (text_names p) < 2 ^ 64 = few_names fewer names ws p q end code in
+            let none : list_any (begins hp) names ≡ false = tables names p hp code.said (free (text_names p) few) in
             let small : count < 2 ^ 64 = omega (arith, t.few) in
             let made : IsCoreMade names hp count (made_words names known hp ws) q = makes names ws p known q count
                 (record { words = code.words; fits = code.short.fits; heads = heads; plain = plain; is = code.short.is }) none small t.below in
             gives names (with_hidden names hp count) ws (made_words names known hp ws) p q end code made.words
-            (spells names p count code.spelled code.few small t.short)
+            (spells names p count code.spelled few small t.short)

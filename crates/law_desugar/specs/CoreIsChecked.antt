@@ -25,7 +25,7 @@ pub record IsGoodCode (names : List Name) (ws : List (SurfaceWord ℕ)) (p : Pro
   pub words : AreWords names ws p
   pub spelled : All IsSpelledName names
   pub said : All (λ x. is_in x (text_names p) ≡ true) names
-  pub few : length (text_names p) < 2 ^ 64
+  pub few : length ws < 2 ^ 64
   pub short : IsShort p q end
 
 -- The words of a core program under a table of names: it fits the grammar, its names are as texts have them, it keeps the rules, and no
