@@ -19,7 +19,7 @@ plain_is_made names ws p known q count h free small below =
     let prefix : Name = hidden_prefix (text_names p) in
     let made = made_words names known prefix ws in
     let words = hidden_names_are_new names prefix count made q h.words.distinct small free below
-        (numbers_desugar names ws p known q h.words free h.fits h.heads h.plain h.is) in
+    (numbers_desugar names ws p known q h.words free h.fits h.heads h.plain h.is) in
     record {
       words = words;
       own_places = numbers_are_placed _ made q words;

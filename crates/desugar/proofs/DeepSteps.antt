@@ -188,6 +188,7 @@ if_so at d a b c g h = go (d == 200) refl
   where
     flat : (x : Option ℕ) → or_then a (or_then b (or_then c x)) ≡ or_then (or_then a (or_then b c)) x
     flat x = ap (λ y. or_then a y) (or_assoc b c x) ∙ or_assoc a (or_then b c) x
+
     go : (t : Bool) → (d == 200) ≡ t → or_then a (or_then b (or_then c (if t then Some at else g))) ≡ or_then (if t then Some at else or_then a (or_then b c)) g
     go true i = flat (Some at) ∙ ap (λ y. or_then y (Some at)) (h (omega (arith, eqb-true d 200 i)))
     go false i = flat g

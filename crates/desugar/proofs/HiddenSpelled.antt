@@ -63,8 +63,10 @@ spelled ds es h g short = record {
   where
     no_double : has_double (ds ++ 95 ∷ es) ≡ false
     no_double = single_after ds (95 ∷ es) h (rw (one_alone es g) (single es g))
+
     room : nat_le (length (hidden_as ds es)) 24 ≡ true
     room = le-leb (length (hidden_as ds es)) 24 short
+
     is_name_so : is_name (hidden_as ds es) ≡ true
     is_name_so = rw (room, no_double) refl
 

@@ -96,7 +96,7 @@ module _ (names : List Name) (prefix : Name) (count : ℕ) where
             let l : length names ≤ i = ltb-false i (length names) p in
             let m : length names ≤ j = ltb-false j (length names) q in
             let same : i - length names ≡ j - length names = hidden_differ prefix (i - length names) (j - length names) (omega (arith, h, l, small))
-                (omega (arith, g, m, small)) (sym (beyond names prefix i l) ∙ e ∙ beyond names prefix j m) in
+            (omega (arith, g, m, small)) (sym (beyond names prefix i l) ∙ e ∙ beyond names prefix j m) in
             omega (arith, l, m, same)
 
     distinct : IsDistinct (with_hidden names prefix count)

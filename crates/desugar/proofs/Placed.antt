@@ -121,7 +121,7 @@ mutual
   expr n o (Loop place bound es turn) =
       let m : ℕ = n + 2 in
       let first = subst (λ (xs : List NameAt). Placing m (n ∷ o) (first_words (names_of turn) es) (m + length (first_words (names_of turn) es)) (n ∷ o)
-          (first_words xs (placed_firsts m (names_of turn) es))) (sym (starts_are m es turn)) (firsts m (n ∷ o) (names_of turn) es) in
+      (first_words xs (placed_firsts m (names_of turn) es))) (sym (starts_are m es turn)) (firsts m (n ∷ o) (names_of turn) es) in
       let head = also (word.Loop place) (next (word.Bound bound.at bound.number) m (omega arith) first) in
       last (both head (turns m (n ∷ o) es turn)) (word.EndLoop place bound.number)
 
@@ -135,7 +135,7 @@ mutual
   firsts n o xs (More e es) =
       let m : ℕ = n + length (start_words xs) + size e + 1 in
       let rest = subst (λ (ys : List NameAt). Placing m o (first_words (others xs) es) (m + length (first_words (others xs) es)) o
-          (first_words ys (placed_firsts m (others xs) es))) (sym (others_from n xs e es)) (firsts m o (others xs) es) in
+      (first_words ys (placed_firsts m (others xs) es))) (sym (others_from n xs e es)) (firsts m o (others xs) es) in
       whole (then (both (start n o xs (More e es)) (expr (n + length (start_words xs)) o e)) word.First m refl rest)
 
   body : (n : ℕ) (o : List ℕ) (b : Body) → Placing n o (body_words b) (n + length (body_words b)) o (body_words (placed_body n b))

@@ -6,12 +6,19 @@
 //! one dimension (`specs/Plain`). `numbers_are_desugared` (`specs/NumbersDesugar`) says the same of words as code has them: names are
 //! numbers in a table, and hidden names are numbered after it.
 //!
+//! So a table that has the hidden names after those of the text is one of the core program (`core_is_made`, `specs/CoreMade`, `specs/Tables`): no
+//! name is twice there, and each is one that texts may have, where none is too long. A pass from the front gives each word a place of its
+//! own, those of the placed program (`words_are_placed`, `specs/Placing`); and one from the end finds the first part that is too deep
+//! (`depth_is_by_words`, `specs/DeepSteps`).
+//!
 //! **Why it holds.** By induction on the tree (`Trees`): the words of a part append the words of what it is in the core, and those of the
 //! `let`s that it holds (`Over`). A value stays on a stack, with the place of its first word, so that a hidden name can take its place
 //! (`Atoms`); at the end of a statement its `let`s go before it (`Bodies`). A plain program wants no instances (`Wanted`). The
 //! flags are those of the tree (`Noted`), since a part leaves open what is open after it (`Passes`, and `Flags` by induction).
 //! Neither pass depends on what names are, but on which are the same (`RenamedSteps`, `RenamedFlags`); and of hidden names it is
 //! enough that they are no names of the table, since names are compared only with names of the words (`Compared`, `ComparedFlags`).
+//! The places, the depth and the names of a part are found by induction, too: its words leave open what was open around them
+//! (`Placed`, `DeepSteps`), and its tokens say names of its words alone (`TextNames`).
 #![tactic(auto)]
 
 ghost use Rattle.desugar.specs.CoreMade.{PlainIsMade, TableIsSpelled};
