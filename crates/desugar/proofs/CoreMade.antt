@@ -10,7 +10,7 @@ use Rattle.surface.specs.Instances.{text_names, hidden_prefix}
 use Rattle.desugar.specs.Tables.{hidden_names}
 use Rattle.desugar.specs.CoreMade.{made_words, PlainIsMade, TableIsSpelled}
 use Rattle.desugar.proofs.Numbers.{numbers_desugar}
-use Rattle.desugar.proofs.HiddenTable.{hidden_names_are_new}
+use Rattle.desugar.proofs.HiddenTable.{hidden_names_are_new, free_is_not_hidden}
 use Rattle.desugar.proofs.HiddenSpelled.{hidden_names_are_spelled}
 use Rattle.desugar.proofs.PlacedNumbers.{numbers_are_placed, places_are_tabled}
 
@@ -18,7 +18,7 @@ pub plain_is_made : PlainIsMade
 plain_is_made names ws p known q count h free small below =
     let prefix : Name = hidden_prefix (text_names p) in
     let made = made_words names known prefix ws in
-    let words = hidden_names_are_new names prefix count made q h.words.distinct small free below
+    let words = hidden_names_are_new names prefix count made q h.words.distinct small (free_is_not_hidden names prefix free) below
     (numbers_desugar names ws p known q h.words free h.fits h.heads h.plain h.is) in
     record {
       words = words;

@@ -13,8 +13,8 @@ use Rattle.source.specs.Words.{name_of, named, numbers_of}
 use Rattle.surface.specs.Making.{hidden}
 use Rattle.desugar.specs.Renamed.{core_renamed}
 use Rattle.desugar.specs.NumbersDesugar.{name_with}
-use Rattle.desugar.specs.Tables.{hidden_names, with_hidden, reached, all_reached, AreBelow, AllAreReached, IsDistinct, HiddenNamesAreNew}
-use Rattle.desugar.proofs.Numbers.{within, beyond, its_number, core_is}
+use Rattle.desugar.specs.Tables.{hidden_names, with_hidden, reached, all_reached, AreBelow, AllAreReached, IsDistinct, NoneIsHidden, FreeIsNotHidden, HiddenNamesAreNew}
+use Rattle.desugar.proofs.Numbers.{within, beyond, core_is, none_begins, begins_itself}
 
 -- HOW LONG IT IS
 pub weaker : {X : Type 0} (P Q : X → Type 0) (xs : List X) → ((x : X) → P x → Q x) → All P xs → All Q xs
@@ -85,13 +85,23 @@ module _ (names : List Name) (prefix : Name) (count : ℕ) where
           get_or-append_right names (hidden_names prefix count) (length names) n [] refl l
           ∙ hidden_at prefix count (n - length names) (omega (arith, h, l)) ∙ sym (beyond names prefix n l)
 
-  module _ (d : IsDistinct names) (small : count < 2 ^ 64) (free : list_any (begins prefix) names ≡ false) where
+  module _ (d : IsDistinct names) (small : count < 2 ^ 64) (other : NoneIsHidden prefix names) where
     one_number : (i j : ℕ) → i < length names + count → j < length names + count → name_with names prefix i ≡ name_with names prefix j → i ≡ j
     one_number i j h g e = go (nat_lt i (length names)) (nat_lt j (length names)) refl refl
       where
         go : (a b : Bool) → nat_lt i (length names) ≡ a → nat_lt j (length names) ≡ b → i ≡ j
-        go a true p q = its_number names prefix d free i j (ltb-true j (length names) q) e
-        go true false p q = sym (its_number names prefix d free j i (ltb-true i (length names) p) (sym e))
+        go true true p q =
+            let k : i < length names = ltb-true i (length names) p in
+            let l : j < length names = ltb-true j (length names) q in
+            d i j k l (sym (within names prefix i k) ∙ e ∙ within names prefix j l)
+        go true false p q =
+            let k : i < length names = ltb-true i (length names) p in
+            let l : length names ≤ j = ltb-false j (length names) q in
+            absurd (other i (j - length names) k (sym (within names prefix i k) ∙ e ∙ beyond names prefix j l))
+        go false true p q =
+            let k : length names ≤ i = ltb-false i (length names) p in
+            let l : j < length names = ltb-true j (length names) q in
+            absurd (other j (i - length names) l (sym (within names prefix j l) ∙ sym e ∙ beyond names prefix i k))
         go false false p q =
             let l : length names ≤ i = ltb-false i (length names) p in
             let m : length names ≤ j = ltb-false j (length names) q in
@@ -117,10 +127,16 @@ module _ (names : List Name) (prefix : Name) (count : ℕ) where
       (words_named ws (All-tail Known w ws h))
 
 pub hidden_names_are_new : HiddenNamesAreNew
-hidden_names_are_new names prefix count ws q d small free below e =
+hidden_names_are_new names prefix count ws q d small other below e =
     let known : AreBelow (length (with_hidden names prefix count)) ws = subst (λ (n : ℕ). AreBelow n ws) (sym (table_length names prefix count)) below in
     record {
       words = words_named names prefix count ws known ∙ e;
       known = known;
-      distinct = distinct names prefix count d small free;
+      distinct = distinct names prefix count d small other;
     }
+
+pub free_is_not_hidden : FreeIsNotHidden
+free_is_not_hidden names prefix free i n h e =
+    let shown : begins prefix (name_of names i) ≡ true = ap (λ (x : Name). begins prefix x) e ∙ begins_itself prefix (decimal (n + 1)) in
+    let hides : begins prefix (name_of names i) ≡ false = none_begins prefix names i h free in
+    cc

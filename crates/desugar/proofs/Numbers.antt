@@ -44,7 +44,7 @@ within names prefix n h = rw (lt-ltb n (length names) h) refl
 pub beyond : (names : List Name) (prefix : Name) (n : ℕ) → length names ≤ n → name_with names prefix n ≡ hidden prefix (n - length names)
 beyond names prefix n h = rw (le-ltb n (length names) h) refl
 
-begins_itself : (p r : List ℕ) → begins p (p ++ r) ≡ true
+pub begins_itself : (p r : List ℕ) → begins p (p ++ r) ≡ true
 begins_itself [] r = refl
 begins_itself (c ∷ p) r = rw (equal_itself c) (begins_itself p r)
 
@@ -59,11 +59,11 @@ none_begins prefix (x ∷ names) (suc n) l h =
     let m : n < length names = omega (arith, l) in
     none_begins prefix names n m (or_false (begins prefix x) (list_any (begins prefix) names) h).1
 
-abbrev pub Distinct : List Name → Type 0
+abbrev Distinct : List Name → Type 0
 Distinct names = (i j : ℕ) → i < length names → j < length names → name_of names i ≡ name_of names j → i ≡ j
 
 -- a name of the table is no other name
-pub its_number : (names : List Name) (prefix : Name) → Distinct names → list_any (begins prefix) names ≡ false → (x y : ℕ) → y < length names
+its_number : (names : List Name) (prefix : Name) → Distinct names → list_any (begins prefix) names ≡ false → (x y : ℕ) → y < length names
     → name_with names prefix x ≡ name_with names prefix y → x ≡ y
 its_number names prefix d free x y l e = go (nat_lt x (length names)) refl
   where

@@ -46,10 +46,18 @@ AllAreReached = (n : ℕ) (ws : List (Word ℕ)) → (n ≤ all_reached n ws) ×
 abbrev pub IsDistinct : List Name → Type 0
 IsDistinct names = (i j : ℕ) → i < length names → j < length names → name_of names i ≡ name_of names j → i ≡ j
 
+-- none of these is a hidden name
+abbrev pub NoneIsHidden : Name → List Name → Type 0
+NoneIsHidden prefix names = (i n : ℕ) → i < length names → name_of names i ≡ hidden prefix n → ⊥
+
+-- as if none of them begins with the prefix
+abbrev pub FreeIsNotHidden : Type 0
+FreeIsNotHidden = (names : List Name) (prefix : Name) → list_any (begins prefix) names ≡ false → NoneIsHidden prefix names
+
 -- Words that name the core's are its words under the table with as many hidden names as they have.
 abbrev pub HiddenNamesAreNew : Type 0
 HiddenNamesAreNew = (names : List Name) (prefix : Name) (count : ℕ) (ws : List (Word ℕ)) (q : core.Program) → IsDistinct names → count < 2 ^ 64
-    → list_any (begins prefix) names ≡ false → AreBelow (length names + count) ws
+    → NoneIsHidden prefix names → AreBelow (length names + count) ws
     → map (core_renamed (name_with names prefix)) ws ≡ core_words.program_words q → core_words.AreWords (with_hidden names prefix count) ws q
 
 -- A hidden name is as texts have names, where it is not too long.

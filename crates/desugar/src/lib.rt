@@ -26,7 +26,7 @@ ghost use Rattle.desugar.specs.DeepSteps.{DepthIsByNumbers, DepthIsByWords};
 ghost use Rattle.desugar.specs.NumbersDesugar.{NumbersDesugar};
 ghost use Rattle.desugar.specs.PlacedWords.{NumbersArePlaced, PlacesAreTabled, WordsArePlaced};
 ghost use Rattle.desugar.specs.StepsDesugar.{StepsDesugar};
-ghost use Rattle.desugar.specs.Tables.{AllAreReached, HiddenNamesAreNew, HiddenNamesAreSpelled, NamesAreFew, PrefixIsFound, TablesAreFree, TextNamesAreSaid, WordsHaveAllNames};
+ghost use Rattle.desugar.specs.Tables.{AllAreReached, FreeIsNotHidden, HiddenNamesAreNew, HiddenNamesAreSpelled, NamesAreFew, PrefixIsFound, TablesAreFree, TextNamesAreSaid, WordsHaveAllNames};
 
 pub mod frame;
 
@@ -49,10 +49,11 @@ pub fn words_are_placed()
     ensures places { PlacesAreTabled }
 {}
 
-/// Words that name those of a core program are its words under a table that has the hidden names after those of the text: each
-/// name is there once. The table is as long as the numbers ask. A hidden name of at most 24 bytes is one that texts may have.
+/// Words that name those of a core program are its words under a table that has the hidden names after others, none of which is
+/// hidden: each name is there once. The table is as long as the numbers ask. A hidden name of at most 24 bytes is one that texts may have.
 pub fn hidden_names_are_new()
     ensures length { AllAreReached }
+    ensures free { FreeIsNotHidden }
     ensures words { HiddenNamesAreNew }
     ensures spelled { HiddenNamesAreSpelled }
 {}
