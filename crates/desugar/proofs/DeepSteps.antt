@@ -1,6 +1,6 @@
 -- The first part that is too deep is found from the end, word by word.
 use Rattle.std.specs.Prelude.{◌≡◌, refl, ℕ, ◌+◌, ◌<◌, ◌==◌, Bool, true, false, List, [], ◌∷◌, ◌++◌, map, Option, None, Some, if◌then◌else◌}
-use Rattle.std.proofs.Common.{◌∙◌, ap, ap₂, sym, arith, eqb-true}
+use Rattle.std.proofs.Common.{◌∙◌, ap, sym, arith, eqb-true}
 use Rattle.operators.specs.declared.Unary.{Unary}
 use Rattle.operators.specs.declared.Unary.TheVariants.{Neg, Not}
 use Rattle.source.specs.declared.word.Word.{Word}
@@ -9,9 +9,9 @@ use Rattle.source.specs.Tree.{Name, NameAt, NumberAt, Target, Bind, Drop, Expr, 
 use Rattle.source.specs.Tree.{Exprs, One, More, Body, Let, Do, Give, Chain, Turn, Before, After, Item, Cells, Defines, Program, names_of}
 use Rattle.source.specs.Spelled.{others}
 use Rattle.source.specs.Rules.{place_of}
-use Rattle.source.specs.Words.{target_word, start_words, words, part_words, first_words, body_words, turn_words, result_words, item_words, program_words, named, AreWords}
+use Rattle.source.specs.Words.{target_word, start_words, words, part_words, first_words, body_words, turn_words, result_words, item_words, program_words, named}
 use Rattle.surface.specs.Deep.{or_then, opened, prefix_opened, too_deep, list_too_deep, body_too_deep, turn_too_deep, item_too_deep, program_too_deep}
-use Rattle.desugar.specs.DeepSteps.{Sought, Nothing, Place, PlaceUnlessNumber, Depths, found_at, found_at_number, sought_in, in_brackets, operand_of, if_found}
+use Rattle.desugar.specs.DeepSteps.{Sought, Nothing, Place, PlaceUnlessNumber, Depths, found_at, sought_in, in_brackets, operand_of, if_found}
 use Rattle.desugar.specs.DeepSteps.{at_end, deeper_before, deeper, words_too_deep, DepthIsByWords, DepthIsByNumbers}
 
 -- BEYOND 200 nothing is found any more.

@@ -1,6 +1,5 @@
 -- THE TABLE with hidden names: each number stands for the name that it stood for before, and no name is twice there.
 use Rattle.std.specs.Prelude.{◌≡◌, refl, ℕ, zero, suc, ◌+◌, ◌-◌, ◌<◌, ◌≤◌, ◌^◌, nat_lt, max, Bool, true, false, List, [], ◌∷◌, ◌++◌, length, map, decimal, All}
-use Rattle.std.specs.List.{list_any}
 use Rattle.std.proofs.Common.{◌∙◌, ap, ap₂, sym, subst, arith, length-append}
 use Rattle.std.proofs.lemmas.Bool.{ltb-true, ltb-false}
 use Rattle.std.proofs.lemmas.Fmt.{decimal_injective}

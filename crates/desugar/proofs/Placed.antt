@@ -1,5 +1,5 @@
 -- THE WORDS OF A PART, PLACED, are those of the placed part; and after it is open what was before.
-use Rattle.std.specs.Prelude.{◌≡◌, refl, ℕ, suc, ◌+◌, List, [], ◌∷◌, ◌++◌, map, length, Option, None, Some}
+use Rattle.std.specs.Prelude.{◌≡◌, refl, ℕ, ◌+◌, List, [], ◌∷◌, ◌++◌, map, length, Option, None, Some}
 use Rattle.std.proofs.Common.{◌∙◌, ap, ap₂, sym, subst, arith, length-append}
 use Rattle.source.specs.declared.word.Word.{Word}
 use Rattle.source.specs.declared.word.Word.TheVariants as word
@@ -8,7 +8,7 @@ use Rattle.source.specs.Tree.{Exprs, One, More, Body, Let, Do, Give, Chain, Turn
 use Rattle.source.specs.Spelled.{others}
 use Rattle.source.specs.Words.{target_word, start_words, words, part_words, first_words, body_words, turn_words, result_words, item_words, program_words}
 use Rattle.surface.specs.Placed.{size, names_from, targets_from, starts_from, placed_expr, placed_parts, placed_firsts, placed_body}
-use Rattle.surface.specs.Placed.{placed_turn, placed_results, placed_item, placed_from, placed}
+use Rattle.surface.specs.Placed.{placed_turn, placed_results, placed_item, placed_from}
 use Rattle.desugar.specs.Placing.{role, opened_after, placed_word, placed_words}
 use Rattle.desugar.specs.PlacedWords.{WordsArePlaced}
 

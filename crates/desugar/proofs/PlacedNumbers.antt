@@ -1,12 +1,12 @@
 -- Words with numbers for names are placed as those with the names are.
 use Rattle.std.specs.Prelude.{◌≡◌, refl, ℕ, ◌+◌, ◌<◌, List, [], ◌∷◌, map, length, All}
 use Rattle.std.proofs.Common.{◌∙◌, ap, ap₂, sym, subst}
-use Rattle.std.proofs.lemmas.List.Elements.{All-nil, All-cons, All-head, All-tail}
+use Rattle.std.proofs.lemmas.List.Elements.{All-cons, All-head, All-tail}
 use Rattle.source.specs.declared.word.Word.{Word}
 use Rattle.source.specs.declared.word.Word.TheVariants as word
-use Rattle.source.specs.Tree.{Name, Program}
-use Rattle.source.specs.Words.{named, numbers_of, program_words, AreWords}
-use Rattle.surface.specs.Placed.{placed, word_place, place_table}
+use Rattle.source.specs.Tree.{Name}
+use Rattle.source.specs.Words.{named, numbers_of}
+use Rattle.surface.specs.Placed.{word_place}
 use Rattle.desugar.specs.Placing.{Role, role, place_for, opened_after, moved_to, placed_word, placed_words, place_at}
 use Rattle.desugar.specs.PlacedWords.{NumbersArePlaced, PlacesAreTabled}
 use Rattle.desugar.proofs.Placed.{words_are_placed}

@@ -20,13 +20,13 @@ use Rattle.surface.specs.declared.token.Sign.TheVariants as sign
 use Rattle.surface.specs.Tree.{Count, Written, Constant, Expr, Number, Named, Bracket, Prefix, Infix, And, Or, Not, Fetch, Store, Call, If, Loop, For}
 use Rattle.surface.specs.Tree.{Exprs, One, More, Body, Let, Do, When, Give, Chain, Tests, Last, Else, Turn, Before, After, Carried, Nothing, With}
 use Rattle.surface.specs.Tree.{Param, Item, Cells, Const, Defines, Program, names_of}
-use Rattle.surface.specs.Spelled.{Lexeme, TheWord, TheSign, TheNumber, TheName, Spelling, a_word, a_sign, the_word, the_sign, word_at, sign_at, number_at}
+use Rattle.surface.specs.Spelled.{Lexeme, TheWord, TheSign, TheNumber, TheName, Spelling, a_word, a_sign, the_word, the_sign, word_at, sign_at}
 use Rattle.surface.specs.Spelled.{strict_tokens, target_token, with_commas, count_token, count_tokens, start_tokens, name_at, name_token, is_chain, braced, tokens, list_tokens}
 use Rattle.surface.specs.Spelled.{first_tokens, body_tokens, tests_tokens, turn_tokens, carried_tokens, rank_tokens, param_tokens, params_tokens, result_tokens}
 use Rattle.surface.specs.Spelled.{item_tokens, program_tokens}
 use Rattle.surface.specs.Words.{of_core, target_word, start_words, bound_word, bound_words, end_loop, words, part_words, index_words, first_words, body_words}
 use Rattle.surface.specs.Words.{tests_words, turn_words, carried_words, result_words, ranked_word, param_word, item_words, program_words, named, numbers_of}
-use Rattle.surface.specs.Instances.{name_said, text_names}
+use Rattle.surface.specs.Instances.{name_said}
 use Rattle.desugar.specs.Tables.{WordsHaveAllNames, NamesAreFew}
 
 -- how many names tokens say

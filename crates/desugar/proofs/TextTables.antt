@@ -11,7 +11,7 @@ use Rattle.source.specs.Outside.{is_in}
 use Rattle.surface.specs.declared.token.Token.{Token}
 use Rattle.surface.specs.Spelled.{Spelling, program_tokens, AreSpelled}
 use Rattle.surface.specs.Instances.{name_said, prefix_number, free_prefix, text_names}
-use Rattle.desugar.specs.Tables.{names_said, TextNamesAreSaid, IsTableOf, TablesAreFree, PrefixIsFound}
+use Rattle.desugar.specs.Tables.{names_said, TextNamesAreSaid, TablesAreFree, PrefixIsFound}
 use Rattle.desugar.proofs.Numbers.{or_false}
 
 -- what no name of some has, none has that is one of them

@@ -43,6 +43,7 @@ main_in (x ∷ names) = go (same_name x main_name) refl (main_in names)
         not_there : (n : ℕ) → n < length (x ∷ names) → name_of (x ∷ names) n ≡ main_name → ⊥
         not_there zero l is = let same : same_name x main_name ≡ true = ap (λ (y : Name). same_name y main_name) is ∙ same_name_itself main_name in cc
         not_there (suc n) l is = none n (omega (arith, l)) is
+
     go : (b : Bool) → same_name x main_name ≡ b → ((m : ℕ) × IsMain names m) → (m : ℕ) × IsMain (x ∷ names) m
     go true e rest = (zero, inl (omega arith, same_name_is x main_name e))
     go false e rest = later e rest
@@ -89,12 +90,13 @@ plain_code_is_good fewer free tables prefix makes spells gives names ws p known 
       where
         hp : Name
         hp = hidden_prefix (text_names p)
+
         of_text : IsTabled names hp count (made_words names known hp ws) → IsGoodCore (with_hidden names hp count) (made_words names known hp ws) q
         of_text t =
             let few : length (text_names p) < 2 ^ 64 = few_names fewer names ws p q end code in
             let none : list_any (begins hp) names ≡ false = tables names p hp code.said (free (text_names p) few) in
             let small : count < 2 ^ 64 = omega (arith, t.few) in
             let made : IsCoreMade names hp count (made_words names known hp ws) q = makes names ws p known q count
-                (record { words = code.words; fits = code.short.fits; heads = heads; plain = plain; is = code.short.is }) none small t.below in
+            (record { words = code.words; fits = code.short.fits; heads = heads; plain = plain; is = code.short.is }) none small t.below in
             gives names (with_hidden names hp count) ws (made_words names known hp ws) p q end code made.words
             (spells names p count code.spelled few small t.short)
