@@ -1,5 +1,5 @@
 -- What code makes of a good program is a program of the core that keeps the rules.
-use Rattle.std.specs.Prelude.{◌≡◌, ◌⊎◌, refl, ℕ, zero, suc, ◌+◌, ◌<◌, ◌≤◌, ◌^◌, Bool, true, false, List, [], ◌∷◌, length, map, All, Ok}
+use Rattle.std.specs.Prelude.{◌≡◌, refl, ℕ, zero, suc, ◌<◌, ◌^◌, Bool, true, false, List, [], ◌∷◌, length, Ok}
 use Rattle.std.specs.List.{list_any}
 use Rattle.std.proofs.Common.{◌∙◌, ap, sym, subst, arith, inl, inr}
 use Rattle.semantics.specs.Graph.{same_name}
@@ -7,15 +7,12 @@ use Rattle.semantics.proofs.Lines.{same_name_is, same_name_itself}
 use Rattle.source.specs.declared.word.Word.{Word}
 use Rattle.source.specs.Tree as core
 use Rattle.source.specs.Tree.{Name}
-use Rattle.source.specs.Tokens.{begins, IsSpelledName}
-use Rattle.source.specs.Words as core_words
+use Rattle.source.specs.Tokens.{begins}
 use Rattle.source.specs.Words.{name_of, IsProgram}
 use Rattle.source.specs.Rules.{main_name, checked}
 use Rattle.source.specs.Counts.{IsGood}
 use Rattle.source_check.specs.Checked.{IsChecked}
-use Rattle.source_check.specs.Checks.{words_checked}
 use Rattle.source_check.specs.Numbers.{IsMain}
-use Rattle.source_check.specs.Stack.{by_number}
 use Rattle.source_check.proofs.Numbers.{numbers_are_checked}
 use Rattle.source_check.proofs.Whole.{is_checked}
 use Rattle.surface.specs.declared.word.Word.{Word as SurfaceWord}
@@ -27,7 +24,7 @@ use Rattle.law_surface.specs.PrefixIsFree.{PrefixIsFree}
 use Rattle.law_surface.specs.SurfaceMeans.{PlacedIsGood}
 use Rattle.desugar.specs.Placing.{placed_words}
 use Rattle.desugar.specs.PlacedWords.{NumbersArePlaced, PlacesAreTabled}
-use Rattle.desugar.specs.Tables.{IsTableOf, with_hidden, WordsHaveAllNames, NamesAreFew, TablesAreFree, PrefixIsFound}
+use Rattle.desugar.specs.Tables.{with_hidden, WordsHaveAllNames, NamesAreFew, TablesAreFree, PrefixIsFound}
 use Rattle.desugar.specs.CoreMade.{made_words, IsCoreMade, PlainIsMade, TableIsSpelled}
 use Rattle.law_desugar.specs.CoreIsChecked.{IsGoodCode, IsGoodCore, CodeIsGood, PrefixIsTables, IsTabled, PlainCodeIsGood}
 

@@ -17,7 +17,7 @@ use Rattle.surface.specs.Placed.{placed, place_table}
 use Rattle.law_surface.specs.GoodGivesGood.{IsShort}
 use Rattle.desugar.specs.Plain.{IsPlainProgram}
 use Rattle.desugar.specs.Placing.{placed_words, place_at}
-use Rattle.desugar.specs.Tables.{IsTableOf, hidden_names, with_hidden, AreBelow}
+use Rattle.desugar.specs.Tables.{hidden_names, with_hidden, AreBelow}
 use Rattle.desugar.specs.CoreMade.{made_words}
 
 -- Words with numbers are those of a good program, whose table has the names of the text and no others.
