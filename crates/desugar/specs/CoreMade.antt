@@ -14,10 +14,11 @@ use Rattle.surface.specs.Fits.{FitsProgram}
 use Rattle.surface.specs.Known.{Known, nothing}
 use Rattle.surface.specs.Rules.{heads}
 use Rattle.surface.specs.Instances.{text_names, hidden_prefix}
-use Rattle.surface.specs.Desugared.{desugared}
+use Rattle.surface.specs.Desugared.{core_items, desugared}
 use Rattle.surface.specs.Placed.{placed, place_table}
 use Rattle.desugar.specs.Flags.{flagged}
 use Rattle.desugar.specs.Steps.{steps}
+use Rattle.desugar.specs.StepsDesugar.{plain_setting}
 use Rattle.desugar.specs.NumbersDesugar.{numbered, begun}
 use Rattle.desugar.specs.Plain.{IsPlainProgram}
 use Rattle.desugar.specs.Placing.{placed_words, place_at}
@@ -34,6 +35,11 @@ pub record IsPlainShort (names : List Name) (ws : List (SurfaceWord ℕ)) (p : P
   pub heads : heads nothing p ≡ Ok known
   pub plain : IsPlainProgram known p
   pub is : desugared p ≡ Ok q
+
+-- It is short for a program of the core.
+abbrev pub PlainIsShort : Type 0
+PlainIsShort = (p : Program) (known : Known) → heads nothing p ≡ Ok known → IsPlainProgram known p
+    → desugared p ≡ Ok (core_items (plain_setting known (hidden_prefix (text_names p))) p)
 
 -- Words are those of a core program, under a table that has so many hidden names after the others. Placed, they are those of the
 -- placed program.

@@ -21,7 +21,7 @@
 //! (`Placed`, `DeepSteps`), and its tokens say names of its words alone (`TextNames`).
 #![tactic(auto)]
 
-ghost use Rattle.desugar.specs.CoreMade.{PlainIsMade, TableIsSpelled};
+ghost use Rattle.desugar.specs.CoreMade.{PlainIsMade, PlainIsShort, TableIsSpelled};
 ghost use Rattle.desugar.specs.DeepSteps.{DepthIsByNumbers, DepthIsByWords};
 ghost use Rattle.desugar.specs.NumbersDesugar.{NumbersDesugar};
 ghost use Rattle.desugar.specs.PlacedWords.{NumbersArePlaced, PlacesAreTabled, WordsArePlaced};
@@ -50,7 +50,8 @@ pub fn words_are_placed()
 {}
 
 /// Words that name those of a core program are its words under a table that has the hidden names after others, none of which is
-/// hidden: each name is there once. The table is as long as the numbers ask. A hidden name of at most 24 bytes is one that texts may have.
+/// hidden: each name is there once. The table is as long as the numbers ask. A hidden name of at most 24 bytes is one that texts
+/// may have.
 pub fn hidden_names_are_new()
     ensures length { AllAreReached }
     ensures free { FreeIsNotHidden }
@@ -58,8 +59,9 @@ pub fn hidden_names_are_new()
     ensures spelled { HiddenNamesAreSpelled }
 {}
 
-/// The names of a text are those that its tokens say. A program's table has each of them, and the text has no more names than the program has words. No name of it begins as the hidden ones do, where all are names of the text, and the
-/// prefix that is free among these is that of the text.
+/// The names of a text are those that its tokens say. A program's table has each of them, and the text has no more names than the
+/// program has words. No name of it begins as the hidden ones do, where all are names of the text, and the prefix that is free
+/// among these is that of the text.
 pub fn tables_are_free()
     ensures said { TextNamesAreSaid }
     ensures names { WordsHaveAllNames }
@@ -68,9 +70,11 @@ pub fn tables_are_free()
     ensures prefix { PrefixIsFound }
 {}
 
-/// What the steps make of a plain program with numbers for names is its core program, under a table that has the hidden names
-/// after those of the text, also with places of its own. Each name of the table is one that texts may have.
+/// A plain program is short for one of the core. What the steps make of it with numbers for names is its core program, under a
+/// table that has the hidden names after those of the text, also with places of its own. Each name of the table is one that texts
+/// may have.
 pub fn core_is_made()
+    ensures core { PlainIsShort }
     ensures words { PlainIsMade }
     ensures spelled { TableIsSpelled }
 {}
