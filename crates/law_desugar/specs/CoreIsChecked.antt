@@ -28,8 +28,8 @@ pub record IsGoodCode (names : List Name) (ws : List (SurfaceWord ℕ)) (p : Pro
   pub few : length ws < 2 ^ 64
   pub short : IsShort p q end
 
--- The words of a core program under a table of names: it fits the grammar, its names are as texts have them, it keeps the rules, and no
--- two of its tokens have one place. A table leads to their places in the text.
+-- The words of a core program with places of its own, under a table of names: it fits the grammar, its names are as texts have them, and
+-- it keeps the rules. A table leads to its places in the text.
 pub record IsGoodCore (names : List Name) (made : List (Word ℕ)) (q : core.Program) : Type 0 where
   pub is : core_words.IsProgram names (placed_words 0 [] made) (placed q)
   pub tree : core_words.HasTree names (placed_words 0 [] made)
