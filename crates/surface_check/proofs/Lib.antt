@@ -25,3 +25,4 @@ pub mod RenamedSteps
 pub mod RenamedLoops
 pub mod OtherMain
 pub mod Numbers
+pub mod Whole

@@ -1,10 +1,9 @@
 -- States with other names in place of each.
-use Rattle.std.specs.Prelude.{◌≡◌, refl, ℕ, Bool, true, false, List, [], ◌∷◌, length, map, ◌-◌, take, drop, Option, None, Some, Result, Ok, Err, if◌then◌else◌}
+use Rattle.std.specs.Prelude.{◌≡◌, refl, ℕ, Bool, true, false, List, [], ◌∷◌, length, map, ◌-◌, drop, Option, None, Some, Result, Ok, Err, if◌then◌else◌}
 use Rattle.std.proofs.Common.{◌∙◌, ap}
 use Rattle.std.proofs.lemmas.List.{length-map, take-map, drop-map}
 use Rattle.source.specs.declared.fault.FaultKind.{FaultKind as CoreKind}
 use Rattle.surface.specs.declared.fault.Fault.{Fault}
-use Rattle.surface.specs.Known.{Callee}
 use Rattle.surface.specs.First.{◌>>=◌, must_be}
 use Rattle.source_check.specs.Steps.{since, back, onto}
 use Rattle.surface_check.specs.declared.frame.Kind.{Kind}

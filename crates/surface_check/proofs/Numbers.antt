@@ -1,5 +1,5 @@
 -- THE WORDS OF CODE are checked as the rules check the program whose words they are.
-use Rattle.std.specs.Prelude.{◌≡◌, refl, ℕ, ◌+◌, ◌<◌, ◌≤◌, nat_lt, Bool, true, false, List, [], ◌∷◌, ◌++◌, length, map, All, Result, Ok, Err, ⊤}
+use Rattle.std.specs.Prelude.{◌≡◌, refl, ℕ, ◌+◌, ◌<◌, nat_lt, Bool, true, false, List, [], ◌∷◌, ◌++◌, length, map, All, Result, Ok, Err, ⊤}
 use Rattle.std.proofs.Common.{◌∙◌, ap, sym, arith, inl, inr}
 use Rattle.std.proofs.lemmas.Bool.{ltb-true, ltb-false}
 use Rattle.std.proofs.lemmas.List.{length-append}
@@ -17,7 +17,7 @@ use Rattle.surface.specs.declared.word.Word.{Word}
 use Rattle.surface.specs.declared.word.Word.TheVariants as word
 use Rattle.surface.specs.Tree.{Program}
 use Rattle.surface.specs.Fits.{FitsProgram}
-use Rattle.surface.specs.Words.{numbers_of, program_words, AreWords}
+use Rattle.surface.specs.Words.{numbers_of, program_words}
 use Rattle.surface.specs.First.{◌>>=◌, must_be}
 use Rattle.surface.specs.Known.{built_in}
 use Rattle.surface.specs.Rules.{checked}
@@ -28,7 +28,7 @@ use Rattle.surface_check.specs.Steps.{State, Plain, begun, steps}
 use Rattle.surface_check.specs.Checks.{by_bytes, is_function, words_checked}
 use Rattle.surface_check.specs.Renamed.{renamed, numbers_in}
 use Rattle.surface_check.specs.NumbersChecked.{NumbersAreChecked}
-use Rattle.surface_check.proofs.Moved.{moved, state_moved, items_by, StepsAlike, mapped}
+use Rattle.surface_check.proofs.Moved.{state_moved, items_by, StepsAlike, mapped}
 use Rattle.surface_check.proofs.RenamedHeads.{Alike, low, high, Both, heads_alike}
 use Rattle.surface_check.proofs.RenamedLoops.{steps_moved}
 use Rattle.surface_check.proofs.OtherMain.{IsNamed, AreNamed, heads_same}
@@ -129,7 +129,7 @@ built_in_same names n = go (nat_lt n (length names)) (nat_lt n (length (more nam
     go false true p q =
         let e : n ≡ length names = at_the_end names n (ltb-true n (length (more names)) q) p in
         let there : built_in (name_of (more names) n) ≡ built_in [] = ap (λ (i : ℕ). built_in (name_of (more names) i)) e
-            ∙ ap (λ (x : Name). built_in x) (main_place names) in
+        ∙ ap (λ (x : Name). built_in x) (main_place names) in
         there ∙ sym (ap (λ (x : Name). built_in x) (none_beyond names n (ltb-false n (length names) p)))
     go false false p q = ap (λ (x : Name). built_in x) (none_beyond (more names) n (ltb-false n (length (more names)) q)
         ∙ sym (none_beyond names n (ltb-false n (length names) p)))

@@ -10,7 +10,6 @@ use Rattle.surface.specs.declared.fault.Fault.{Fault}
 use Rattle.surface.specs.declared.word.Word.{Word}
 use Rattle.surface.specs.declared.word.Word.TheVariants as word
 use Rattle.surface.specs.First.{◌>>=◌}
-use Rattle.surface.specs.Constants.{number_or_zero}
 use Rattle.surface.specs.Rules.{one_if}
 use Rattle.source_check.specs.Steps.{since, back, onto}
 use Rattle.surface_check.specs.declared.frame.Kind.{Kind}
@@ -21,10 +20,10 @@ use Rattle.surface_check.specs.declared.frame.Frame.TheVariants as frame
 use Rattle.surface_check.specs.Evaluates.{Evaluation, evaluates, constants, constant_of}
 use Rattle.surface_check.specs.Heads.{Names, ends_item}
 use Rattle.surface_check.specs.Renamed.{renamed, core_renamed}
-use Rattle.surface_check.specs.Steps.{Items, Open, State, Plain, Passing, Measuring, Skipping, stands, top, popped, pushed, ended, taken, using, names_begin, entered}
+use Rattle.surface_check.specs.Steps.{Items, Open, State, Plain, Passing, Measuring, Skipping, top, popped, pushed, ended, taken, using, names_begin, entered}
 use Rattle.surface_check.specs.Steps.{let_ends, end_let, first_arm, second_arm, end_if, end_when, bounded, turned, until, left_turn, closed, end_loop, range_ends}
-use Rattle.surface_check.specs.Steps.{is_carried, as_many, values_of, bound_in, end_for, function, body, end_function, core_step, plain_step, ends_measure, measured}
-use Rattle.surface_check.specs.Steps.{step, steps, prefixed, bracketed}
+use Rattle.surface_check.specs.Steps.{is_carried, as_many, values_of, bound_in, end_for, body, end_function, core_step, plain_step, ends_measure, measured}
+use Rattle.surface_check.specs.Steps.{step, steps, prefixed}
 use Rattle.surface_check.proofs.Moved.{kind_moved, moved, state_moved, items_by, StepsAlike, mapped, must_mapped, must_moved, must_first, bind_mapped}
 use Rattle.surface_check.proofs.Moved.{if_mapped, since_moved, back_moved, onto_moved, length_since, drop_one}
 use Rattle.surface_check.proofs.RenamedHeads.{evaluates_alike, ends_alike}

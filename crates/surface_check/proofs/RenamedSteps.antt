@@ -1,6 +1,6 @@
 -- STEPS DO NOT DEPEND ON WHAT NAMES ARE, but on which are the same: values, names, arrays and calls.
-use Rattle.std.specs.Prelude.{◌≡◌, refl, ℕ, zero, suc, ◌+◌, ◌==◌, ◌&&◌, ◌||◌, not, Bool, true, false, pos, int_le, int_lt, List, [], ◌∷◌, ◌++◌, length, map, drop, take}
-use Rattle.std.specs.Prelude.{replicate, is_some, Option, None, Some, Result, Ok, if◌then◌else◌}
+use Rattle.std.specs.Prelude.{◌≡◌, refl, ℕ, zero, suc, ◌+◌, ◌==◌, ◌&&◌, ◌||◌, not, Bool, true, false, pos, int_le, int_lt, List, [], ◌∷◌, map, drop}
+use Rattle.std.specs.Prelude.{is_some, Option, None, Some, if◌then◌else◌}
 use Rattle.std.proofs.Common.{◌∙◌, ap, ap₂, sym}
 use Rattle.std.proofs.lemmas.List.{map-append}
 use Rattle.operators.specs.declared.Unary.{Unary}
@@ -22,7 +22,7 @@ use Rattle.surface_check.specs.Evaluates.{word_ahead, core_ahead, ends_call, str
 use Rattle.surface_check.specs.Heads.{Names}
 use Rattle.surface_check.specs.Pins.{array_in, signature_in, callee_in}
 use Rattle.surface_check.specs.Renamed.{renamed, core_renamed}
-use Rattle.surface_check.specs.Steps.{Items, Open, State, Plain, NamePart, stands, lookup_by, top, popped, pushed, ended, taken, rank_at, is_constant_entry}
+use Rattle.surface_check.specs.Steps.{Items, Open, Plain, NamePart, stands, lookup_by, top, popped, pushed, ended, rank_at, is_constant_entry}
 use Rattle.surface_check.specs.Steps.{no_value, noted, all_noted, using, named, argument, core_is_part, is_part, part_next, passes, name_read, bracketed, prefixed}
 use Rattle.surface_check.specs.Steps.{operated, one_taken, cell, next_index, indexed, measures, core_name, word_name, name_part, measured_from, calls_built_in}
 use Rattle.surface_check.specs.Steps.{callee_at, begins_call, part, passed, takes, call, measured, give, is_new, bound, array_bound, dropped}

@@ -19,7 +19,8 @@ pub fn words_are_checked()
     ensures { WordsAreChecked }
 {}
 
-/// They answer so also where words give names by their numbers in a table.
+/// The answer is also theirs where words give names by their numbers in a table, as in code, and `main` is the number of that
+/// name, or the first one that is no name's.
 #[tactic(auto, using(crate::proofs::Numbers::numbers_are_checked))]
 pub fn numbers_are_checked()
     ensures { NumbersAreChecked }
