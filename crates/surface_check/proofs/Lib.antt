@@ -20,3 +20,9 @@ pub mod OverLoops
 pub mod OverFors
 pub mod OverAll
 pub mod OverFunctions
+pub mod Moved
+pub mod RenamedSteps
+pub mod RenamedLoops
+pub mod OtherMain
+pub mod Numbers
+pub mod Whole

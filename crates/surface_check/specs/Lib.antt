@@ -6,3 +6,4 @@ pub mod Renamed
 pub mod Table
 pub mod Checks
 pub mod Callees
+pub mod NumbersChecked
