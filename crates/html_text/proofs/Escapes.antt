@@ -86,7 +86,7 @@ byte_read c less rest = by (is_bare c) refl
     by false e = ap (λ (d : ℕ). d ∷ read_as a_byte rest) value
 
 -- ALL BYTES
-all_written : (n : ℕ) (bytes : List ℕ) → AreBytes bytes → list_all written (numbered byte_at n bytes) ≡ true
+pub all_written : (n : ℕ) (bytes : List ℕ) → AreBytes bytes → list_all written (numbered byte_at n bytes) ≡ true
 all_written n [] are = refl
 all_written n (c ∷ cs) are = join written (escaped_byte c) (numbered byte_at (n + 1) cs) (byte_written c (All-head (λ c. c < 256) c cs are))
     (all_written (n + 1) cs (All-tail (λ c. c < 256) c cs are))

@@ -1,12 +1,13 @@
 -- WHAT THE PANE BESIDE THE CODE SHOWS, as JSON: what each instruction belongs to; and of a program its text, and the places in it from which the
 -- graph's blocks and nodes came.
-use Rattle.std.specs.Prelude.{ℕ, zero, suc, Bool, true, false, List, [], ◌++◌, codes}
+use Rattle.std.specs.Prelude.{ℕ, zero, suc, Bool, true, false, All, List, [], ◌++◌, codes}
 use Rattle.sink.specs.Numbered.{numbered}
 use Rattle.code_map.specs.declared.part.Part.{Part}
 use Rattle.code_map.specs.declared.owner.Owner.{Owner}
 use Rattle.lowering.specs.Built.{Places}
 use Rattle.html_text.specs.DataText.{number_text, semicolon}
-use Rattle.html_text.specs.Escape.{escaped}
+use Rattle.html_text.specs.Escape.{escaped, AreBytes}
+use Rattle.html_text.specs.Plain.{IsInert}
 
 -- AN OWNER: the number of the block, a plus if the code is that of an iteration, and the part: the entry with the continuation, a node, an
 -- output, the turn of an iteration, the joins of a conditional, or the release
@@ -49,8 +50,19 @@ program_text program = codes ",\"program\":\"" ++ escaped program ++ codes "\""
 abbrev pub pane_head : List ℕ
 pane_head = codes "</script>\n<script type=\"application/json\" id=\"parts\">"
 
+abbrev pub graph_parts : List Owner → List ℕ
+graph_parts owners = owners_text owners ++ codes "}"
+
+abbrev pub program_parts : List Owner → List ℕ → List Places → List ℕ
+program_parts owners program places = owners_text owners ++ program_text program ++ places_text places ++ codes "}"
+
 abbrev pub graph_pane : List Owner → List ℕ
-graph_pane owners = pane_head ++ owners_text owners ++ codes "}"
+graph_pane owners = pane_head ++ graph_parts owners
 
 abbrev pub program_pane : List Owner → List ℕ → List Places → List ℕ
-program_pane owners program places = pane_head ++ owners_text owners ++ program_text program ++ places_text places ++ codes "}"
+program_pane owners program places = pane_head ++ program_parts owners program places
+
+-- THE LAW. What is in it, of a program of any bytes, has none of < > & ' ` and \, so that it ends no script.
+abbrev pub PanesAreInert : Type 0
+PanesAreInert = ((owners : List Owner) → All IsInert (graph_parts owners))
+    × ((owners : List Owner) (program : List ℕ) (places : List Places) → AreBytes program → All IsInert (program_parts owners program places))

@@ -18,5 +18,5 @@ mod tokens;
 pub use data::write_data;
 pub use escape::escapes_are_exact;
 pub use page::{Part, write_mark, write_part};
-pub use pane::{write_graph_pane, write_program_pane};
+pub use pane::{panes_are_inert, write_graph_pane, write_program_pane};
 pub use plain::texts_are_plain;

@@ -2,7 +2,7 @@
 
 ghost use Rattle.std.specs.Prelude.{◌≡◌, ◌++◌};
 ghost use Rattle.html_text.specs.PaneText.{turn_mark, part_text, owner_text, owners_text, place_lead, next_number, block_text, places_text, program_text};
-ghost use Rattle.html_text.specs.PaneText.{pane_head, graph_pane, program_pane};
+ghost use Rattle.html_text.specs.PaneText.{pane_head, graph_parts, program_parts, graph_pane, program_pane, PanesAreInert};
 ghost use Rattle.sink.specs.Numbered.{numbered};
 ghost use Rattle.sink.specs.Sends.{Sends};
 
@@ -133,15 +133,37 @@ fn send_program<W: Write>(writer: &mut W, program: &[u8]) -> io::Result<()>
     send(writer, b"\"")
 }
 
-/// The beginning of the pane, and the owners.
-fn send_pane<W: Write>(writer: &mut W, owners: &[Owner]) -> io::Result<()>
-    ensures { Sends result (W.contents writer.old) (W.contents writer.new) (pane_head ++ owners_text owners.now) }
+/// The beginning of the pane.
+fn send_head<W: Write>(writer: &mut W) -> io::Result<()>
+    ensures { Sends result (W.contents writer.old) (W.contents writer.new) pane_head }
 {
     send(
         writer,
         b"</script>\n<script type=\"application/json\" id=\"parts\">",
-    )?;
-    send_owners(writer, owners)
+    )
+}
+
+/// What the pane of a graph shows.
+fn send_graph_parts<W: Write>(writer: &mut W, owners: &[Owner]) -> io::Result<()>
+    ensures { Sends result (W.contents writer.old) (W.contents writer.new) (graph_parts owners.now) }
+{
+    send_owners(writer, owners)?;
+    send(writer, b"}")
+}
+
+/// What the pane of a program shows.
+fn send_program_parts<A: Allocator, W: Write>(
+    writer: &mut W,
+    owners: &[Owner],
+    program: &[u8],
+    places: &[Places<A>],
+) -> io::Result<()>
+    ensures { Sends result (W.contents writer.old) (W.contents writer.new) (program_parts owners.now program.now places.now) }
+{
+    send_owners(writer, owners)?;
+    send_program(writer, program)?;
+    send_places(writer, places)?;
+    send(writer, b"}")
 }
 
 /// Writes what the pane of a graph's page shows: what each instruction of the code belongs to, in the order of the listing. The page finds the
@@ -150,8 +172,8 @@ fn send_pane<W: Write>(writer: &mut W, owners: &[Owner]) -> io::Result<()>
 pub fn write_graph_pane<W: Write>(writer: &mut W, owners: &[Owner]) -> io::Result<()>
     ensures { Sends result (W.contents writer.old) (W.contents writer.new) (graph_pane owners.now) }
 {
-    send_pane(writer, owners)?;
-    send(writer, b"}")
+    send_head(writer)?;
+    send_graph_parts(writer, owners)
 }
 
 /// The same for a program: also its text, of any bytes, and the places in it from which the graph's blocks came, one for each block of the
@@ -165,8 +187,11 @@ pub fn write_program_pane<A: Allocator, W: Write>(
 ) -> io::Result<()>
     ensures { Sends result (W.contents writer.old) (W.contents writer.new) (program_pane owners.now program.now places.now) }
 {
-    send_pane(writer, owners)?;
-    send_program(writer, program)?;
-    send_places(writer, places)?;
-    send(writer, b"}")
+    send_head(writer)?;
+    send_program_parts(writer, owners, program, places)
 }
+
+/// What is in a pane, of a program of any bytes, has none of `<`, `>`, `&`, `'`, `` ` `` and `\`, so that it ends no script.
+pub fn panes_are_inert()
+    ensures { PanesAreInert }
+{}
