@@ -59,7 +59,9 @@ program_inert bytes are = inerts (codes ",\"program\":\"", refl)
     ((escaped bytes, lift written inert written_inert (numbered byte_at 0 bytes) (all_written 0 bytes are)) ∷ (codes "\"", refl) ∷ [])
 
 pub panes_inert : PanesAreInert
-panes_inert = (λ owners. all_from inert IsInert inert_means (graph_parts owners)
-    (inerts (owners_text owners, owners_inert owners) ((codes "}", refl) ∷ [])),
-    λ owners program places are. all_from inert IsInert inert_means (program_parts owners program places)
-    (inerts (owners_text owners, owners_inert owners) ((program_text program, program_inert program are) ∷ (places_text places, places_inert places) ∷ (codes "}", refl) ∷ [])))
+panes_inert = (
+  λ owners. all_from inert IsInert inert_means (graph_parts owners)
+      (inerts (owners_text owners, owners_inert owners) ((codes "}", refl) ∷ [])),
+  λ owners program places are. all_from inert IsInert inert_means (program_parts owners program places)
+      (inerts (owners_text owners, owners_inert owners) ((program_text program, program_inert program are) ∷ (places_text places, places_inert places) ∷ (codes "}", refl) ∷ [])),
+)

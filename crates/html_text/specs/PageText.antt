@@ -23,3 +23,8 @@ large_mark events = if nat_lt 1000000 events then codes "<!-- large -->\n" else 
 abbrev pub html_text : List ℕ → List ℕ → List ℕ → List ℕ → ℕ → List ℕ
 html_text source listing report run events = (part_text Top ++ source) ++ (part_text ToListing ++ listing) ++ (part_text ToReport ++ report)
     ++ (part_text ToData ++ run) ++ part_text Script ++ large_mark events
+
+-- the same page with a text beside the code: the pane ends the data
+abbrev pub html_text_beside : List ℕ → List ℕ → List ℕ → List ℕ → List ℕ → ℕ → List ℕ
+html_text_beside source listing report run pane events = (part_text Top ++ source) ++ (part_text ToListing ++ listing) ++ (part_text ToReport ++ report)
+    ++ (part_text ToData ++ run) ++ pane ++ part_text Script ++ large_mark events

@@ -1,7 +1,8 @@
 //! The page's script: the text beside the code.
 
 /// The pane with the program or the graph: what it shows, and what is marked in it.
-pub(crate) const BESIDE: &[u8] = br##"// ---- the text beside the code: the program, or else the graph. A spot is a place in it for which instructions were made.
+pub(crate) const BESIDE: &[u8] =
+    br##"// ---- the text beside the code: the program, or else the graph. A spot is a place in it for which instructions were made.
 const PARTS = $('parts') && JSON.parse($('parts').textContent), TEXTS = [], ROOM = 1200;
 const OWNERS = !PARTS || !PARTS.owners ? [] : PARTS.owners.split(';').map(o => { const [, b, turns, part, k] = /^(\d+)(\+?)(.)(\d*)$/.exec(o);
     return {b: +b, turns: turns !== '', part: part, k: +k}; });

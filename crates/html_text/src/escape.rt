@@ -41,10 +41,7 @@ fn send_byte<W: Write>(writer: &mut W, place: usize, byte: u8) -> io::Result<()>
     if is_bare(byte) {
         send(writer, &[byte])
     } else {
-        send(
-            writer,
-            &[b'%', hex_digit(byte / 16), hex_digit(byte % 16)],
-        )
+        send(writer, &[b'%', hex_digit(byte / 16), hex_digit(byte % 16)])
     }
 }
 
