@@ -1,6 +1,6 @@
 -- What is in a pane ends no script.
 use Rattle.std.proofs.Common.{◌≡◌, refl, ℕ, zero, suc, true, false, ◌&&◌, Bool, List, [], ◌∷◌}
-use Rattle.std.specs.Prelude.{codes, nat_le, nat_lt}
+use Rattle.std.specs.Prelude.{codes, decimal, nat_le, nat_lt}
 use Rattle.std.specs.List.{list_all}
 use Rattle.std.proofs.lemmas.Bool.{and_parts}
 use Rattle.sink.specs.Numbered.{numbered}
@@ -8,12 +8,13 @@ use Rattle.code_map.specs.declared.part.Part.{Part}
 use Rattle.code_map.specs.declared.owner.Owner.{Owner}
 use Rattle.lowering.specs.Built.{Places}
 use Rattle.html_text.specs.DataText.{number_text, semicolon}
-use Rattle.html_text.specs.Plain.{IsInert}
+use Rattle.html_text.specs.Plain.{IsInert, IsQuotable, IsInPart}
 use Rattle.html_text.specs.Escape.{escaped, byte_at, AreBytes}
 use Rattle.html_text.specs.PaneText.{turn_mark, part_text, owner_text, owners_text, place_lead, next_number, block_text, places_text, program_text}
-use Rattle.html_text.specs.PaneText.{graph_parts, program_parts, PanesAreInert}
-use Rattle.html_text.proofs.Bytes.{plain, inert, inert_means, plain_inert, lift, all_from, all_numbered}
-use Rattle.html_text.proofs.PlainTexts.{Inert, inerts, number_inert}
+use Rattle.html_text.specs.PaneText.{graph_parts, program_parts, PanesAreInert, OwnersAreWhole}
+use Rattle.html_text.proofs.Bytes.{plain, inert, quotable, in_part, in_word, inert_means, quotable_means, in_part_means, plain_inert, word_part, part_quotable}
+use Rattle.html_text.proofs.Bytes.{lift, join, join_all, all_from, all_numbered, number}
+use Rattle.html_text.proofs.PlainTexts.{Inert, InPart, Quotable, inerts, number_inert}
 use Rattle.html_text.proofs.Escapes.{written, all_written}
 
 semicolon_inert : (n : ℕ) → Inert (semicolon n)
@@ -64,4 +65,43 @@ panes_inert = (
       (inerts (owners_text owners, owners_inert owners) ((codes "}", refl) ∷ [])),
   λ owners program places are. all_from inert IsInert inert_means (program_parts owners program places)
       (inerts (owners_text owners, owners_inert owners) ((program_text program, program_inert program are) ∷ (places_text places, places_inert places) ∷ (codes "}", refl) ∷ [])),
+)
+
+-- EACH OWNER
+number_part : (tag : List ℕ) (n : ℕ) → InPart tag → InPart (number_text tag n)
+number_part tag n t = join in_part tag (decimal n) t (lift in_word in_part word_part (decimal n) (number n))
+
+turn_part : (t : Bool) → InPart (turn_mark t)
+turn_part true = refl
+turn_part false = refl
+
+part_part : (p : Part) → InPart (part_text p)
+part_part Part.Continuation = refl
+part_part (Part.Node n) = number_part (codes "n") n refl
+part_part (Part.Output n) = number_part (codes "o") n refl
+part_part Part.Turn = refl
+part_part (Part.Joins n) = number_part (codes "j") n refl
+part_part Part.Release = refl
+
+owner_part : (o : Owner) → InPart (owner_text 0 o)
+owner_part o = join_all in_part (number_text (semicolon 0) o.block, number_part (semicolon 0) o.block refl)
+    ((turn_mark o.turns, turn_part o.turns) ∷ (part_text o.part, part_part o.part) ∷ [])
+
+quoted : (xs : List ℕ) → InPart xs → Quotable xs
+quoted xs p = lift in_part quotable part_quotable xs p
+
+semicolon_quotable : (n : ℕ) → Quotable (semicolon n)
+semicolon_quotable zero = refl
+semicolon_quotable (suc n) = refl
+
+owner_quotable : (n : ℕ) (o : Owner) → Quotable (owner_text n o)
+owner_quotable n o =
+    let digits : Quotable (decimal o.block) = quoted (decimal o.block) (lift in_word in_part word_part (decimal o.block) (number o.block)) in
+    join_all quotable (number_text (semicolon n) o.block, join quotable (semicolon n) (decimal o.block) (semicolon_quotable n) digits)
+    ((turn_mark o.turns, quoted (turn_mark o.turns) (turn_part o.turns)) ∷ (part_text o.part, quoted (part_text o.part) (part_part o.part)) ∷ [])
+
+pub owners_whole : OwnersAreWhole
+owners_whole = (
+  λ owners. all_from quotable IsQuotable quotable_means (numbered owner_text 0 owners) (all_numbered quotable owner_text owner_quotable 0 owners),
+  λ o. all_from in_part IsInPart in_part_means (owner_text 0 o) (owner_part o),
 )

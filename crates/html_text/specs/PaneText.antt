@@ -7,7 +7,7 @@ use Rattle.code_map.specs.declared.owner.Owner.{Owner}
 use Rattle.lowering.specs.Built.{Places}
 use Rattle.html_text.specs.DataText.{number_text, semicolon}
 use Rattle.html_text.specs.Escape.{escaped, AreBytes}
-use Rattle.html_text.specs.Plain.{IsInert}
+use Rattle.html_text.specs.Plain.{IsInert, IsQuotable, IsInPart}
 
 -- AN OWNER: the number of the block, a plus if the code is that of an iteration, and the part: the entry with the continuation, a node, an
 -- output, the turn of an iteration, the joins of a conditional, or the release
@@ -62,7 +62,11 @@ graph_pane owners = pane_head ++ graph_parts owners
 abbrev pub program_pane : List Owner → List ℕ → List Places → List ℕ
 program_pane owners program places = pane_head ++ program_parts owners program places
 
--- THE LAW. What is in it, of a program of any bytes, has none of < > & ' ` and \, so that it ends no script.
+-- THE LAWS. What is in it, of a program of any bytes, has none of < > & ' ` and \, so that it ends no script.
 abbrev pub PanesAreInert : Type 0
 PanesAreInert = ((owners : List Owner) → All IsInert (graph_parts owners))
     × ((owners : List Owner) (program : List ℕ) (places : List Places) → AreBytes program → All IsInert (program_parts owners program places))
+
+-- The owners are a JSON string as they are, and no owner has a semicolon, so that each ends where the next begins.
+abbrev pub OwnersAreWhole : Type 0
+OwnersAreWhole = ((owners : List Owner) → All IsQuotable (numbered owner_text 0 owners)) × ((o : Owner) → All IsInPart (owner_text 0 o))

@@ -2,7 +2,7 @@
 
 ghost use Rattle.std.specs.Prelude.{◌≡◌, ◌++◌};
 ghost use Rattle.html_text.specs.PaneText.{turn_mark, part_text, owner_text, owners_text, place_lead, next_number, block_text, places_text, program_text};
-ghost use Rattle.html_text.specs.PaneText.{pane_head, graph_parts, program_parts, graph_pane, program_pane, PanesAreInert};
+ghost use Rattle.html_text.specs.PaneText.{pane_head, graph_parts, program_parts, graph_pane, program_pane, PanesAreInert, OwnersAreWhole};
 ghost use Rattle.sink.specs.Numbered.{numbered};
 ghost use Rattle.sink.specs.Sends.{Sends};
 
@@ -191,7 +191,9 @@ pub fn write_program_pane<A: Allocator, W: Write>(
     send_program_parts(writer, owners, program, places)
 }
 
-/// What is in a pane, of a program of any bytes, has none of `<`, `>`, `&`, `'`, `` ` `` and `\`, so that it ends no script.
+/// What is in a pane, of a program of any bytes, has none of `<`, `>`, `&`, `'`, `` ` `` and `\`, so that it ends no script. The
+/// owners are a JSON string as they are, and each ends where the next begins.
 pub fn panes_are_inert()
-    ensures { PanesAreInert }
+    ensures inert { PanesAreInert }
+    ensures owners { OwnersAreWhole }
 {}
