@@ -6,7 +6,7 @@ ghost use Rattle.source.specs.Tokens.{program_of};
 ghost use Rattle.code_map.specs.Carried.{owners_of};
 ghost use Rattle.html_text.specs.PaneText.{graph_pane, program_pane};
 ghost use Rattle.lowered_text.specs.Parts.{IsGood, IsMade};
-ghost use Rattle.outcomes.specs.declared.refusal.Refusal as RefusedAs;
+ghost use Rattle.outcomes.specs.declared.refusal.Refusal.{Refusal};
 ghost use Rattle.commands.specs.FileInputs.{graph_part};
 ghost use Rattle.mapped.specs.Paned.{IsGraphPane, IsPane, IsProgramPane, IsUnpaned, PrintsFilePage};
 
@@ -122,7 +122,7 @@ fn pane_of_program<A: Allocator + Clone>(alloc: &A, text: &[u8]) -> Result<Vec<u
 
 /// The pane of the graph with which these bytes begin.
 fn pane_of_graph<A: Allocator + Clone>(alloc: &A, bytes: &[u8]) -> Result<Vec<u8, A>, Refusal>
-    ensures { MatchResult result (λ v. IsGraphPane (graph_part bytes.now) v.items) (λ f. f ≡ RefusedAs.Memory) }
+    ensures { MatchResult result (λ v. IsGraphPane (graph_part bytes.now) v.items) (λ f. f ≡ Refusal.Memory) }
 {
     let (text, _lines) = split_at_main(bytes);
     match pane_of_text(alloc, text) {
