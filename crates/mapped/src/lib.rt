@@ -112,7 +112,11 @@ fn print_graph_map<A: Allocator + Clone, W: Write>(
         Ok(mapped) => mapped,
         Err(fault) => return refuse(writer, &fault_refusal(fault)),
     };
-    match send_map(writer, &mapped, None) {
+    let nowhere = ProgramPlaces {
+        program: &[],
+        places: &[],
+    };
+    match send_map(writer, &mapped, Some(nowhere)) {
         Ok(()) => Ok(Outcome::Done),
         Err(fault) => Err(fault),
     }
