@@ -24,7 +24,7 @@ use files::{Content, content_of};
 use graph::Graph;
 use graph_check::Checked;
 use lowered_text::programs::{Made, Parts, make, read_good};
-use lowering::Named;
+use lowering::{Named, Places};
 use map_text::{ProgramPlaces, write_code_map};
 use object_view::OwnedObject;
 use outcomes::{Outcome, Refusal};
@@ -108,13 +108,17 @@ fn print_graph_map<A: Allocator + Clone, W: Write>(
 ) -> io::Result<Outcome>
     ensures { PrintsGraphMap result (W.contents writer.old) (W.contents writer.new) text.now }
 {
+    let Ok(room) = alloc.clone() else {
+        return refuse(writer, &Refusal::Memory);
+    };
     let mapped = match map_text(alloc, text) {
         Ok(mapped) => mapped,
         Err(fault) => return refuse(writer, &fault_refusal(fault)),
     };
+    let places: Vec<Places<A>, A> = Vec::new(room);
     let nowhere = ProgramPlaces {
-        program: &[],
-        places: &[],
+        program: b"",
+        places: &places,
     };
     match send_map(writer, &mapped, Some(nowhere)) {
         Ok(()) => Ok(Outcome::Done),
