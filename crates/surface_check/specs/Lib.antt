@@ -6,3 +6,5 @@ pub mod Renamed
 pub mod Table
 pub mod Checks
 pub mod Callees
+pub mod Stack
+pub mod Machine
