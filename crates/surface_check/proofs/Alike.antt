@@ -17,7 +17,7 @@ use Rattle.surface_check.specs.declared.frame.Kind.TheVariants as kind
 use Rattle.surface_check.specs.declared.frame.Turn.{Turn}
 use Rattle.surface_check.specs.Pins.{array_in}
 use Rattle.surface_check.specs.Renamed.{numbers_in}
-use Rattle.surface_check.specs.Steps.{Items, Open, State, Plain, NamePart, name_part, stands, lookup_by, top, passes, part_next, plain, pushed, ended, single}
+use Rattle.surface_check.specs.Steps.{Items, Open, State, NamePart, name_part, stands, lookup_by, top, passes, part_next, plain, pushed, ended, single}
 use Rattle.surface_check.specs.Steps.{rank_at, no_value, noted, all_noted, using, named, argument, name_read, is_constant_entry, measures, measured_from, calls_built_in}
 use Rattle.surface_check.specs.Steps.{is_new, bound, array_bound, left_turn, closed, end_loop, is_carried, bound_in, as_many, values_of, end_for}
 

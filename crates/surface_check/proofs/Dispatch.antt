@@ -1,10 +1,9 @@
 -- What a word does.
-use Rattle.std.specs.Prelude.{◌≡◌, refl, ℕ, suc, ◌+◌, ◌-◌, ◌<◌, ◌≤◌, ◌⊎◌, Bool, List, [], ◌∷◌, ◌++◌, length, reverse, take, drop, slice_index_or, Result, Ok, Err, ⊤}
+use Rattle.std.specs.Prelude.{◌≡◌, ℕ, suc, ◌+◌, ◌-◌, ◌<◌, ◌≤◌, ◌⊎◌, Bool, List, [], ◌∷◌, ◌++◌, length, reverse, take, drop, slice_index_or, Result, Ok, Err, ⊤}
 use Rattle.std.proofs.Common.{◌∙◌, ap, sym, subst, arith, inl, inr}
 use Rattle.std.proofs.lemmas.List.{reverse-append, length-drop}
 use Rattle.std.proofs.Math.Seq.{drop-cons, take-length}
 use Rattle.source.specs.declared.word.Word.{Word as CoreWord}
-use Rattle.source.specs.declared.word.Word.TheVariants as core_word
 use Rattle.source.specs.Tree.{Name}
 use Rattle.surface.specs.declared.fault.Fault.{Fault}
 use Rattle.surface.specs.declared.word.Word.{Word}

@@ -1,5 +1,5 @@
 -- THE STEPS AS CODE HAS THEM: names are numbers in a table, items are those of the table of what is known.
-use Rattle.std.specs.Prelude.{◌≡◌, ℕ, ◌+◌, ◌==◌, ◌||◌, Bool, false, List, [], ◌∷◌, drop, is_some, Option, Some, None, Result, Ok, Err, ⊤, IsOk, ◌⊎◌, MatchResult}
+use Rattle.std.specs.Prelude.{◌≡◌, ℕ, ◌+◌, ◌==◌, ◌||◌, Bool, false, List, [], ◌∷◌, drop, is_some, Result, Err, ⊤, IsOk, ◌⊎◌, MatchResult}
 use Rattle.source.specs.declared.fault.FaultKind.TheVariants.{Arity}
 use Rattle.source.specs.declared.word.Word.{Word as CoreWord}
 use Rattle.source.specs.declared.word.Word.TheVariants as core_word

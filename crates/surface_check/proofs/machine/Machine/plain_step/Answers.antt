@@ -1,4 +1,4 @@
-use Rattle.std.proofs.Common.{◌≡◌, ◌∙◌, [], ap, sym, refl}
+use Rattle.std.proofs.Common.{◌≡◌, ◌∙◌, [], ap, sym}
 use Rattle.surface.specs.declared.word.Word.TheVariants as word
 use Rattle.surface_check.specs.Machine.{MachineView, items_in}
 use Rattle.surface_check.specs.Renamed.{numbers_in}

@@ -1,4 +1,4 @@
-use Rattle.std.proofs.Common.{◌≡◌, ◌∙◌, ℕ, [], ap}
+use Rattle.std.proofs.Common.{◌∙◌, ℕ, [], ap}
 use Rattle.source_check.specs.Steps.{since}
 use Rattle.surface_check.specs.Renamed.{numbers_in}
 use Rattle.surface_check.specs.Steps.{Open, is_carried}
