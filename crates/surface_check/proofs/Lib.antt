@@ -20,8 +20,8 @@ pub mod OverLoops
 pub mod OverFors
 pub mod OverAll
 pub mod OverFunctions
-pub mod Stack
 pub mod Alike
 pub mod Closings
 pub mod OpenParts
 pub mod Dispatch
+pub mod Programs

@@ -20,20 +20,6 @@ use Rattle.surface_check.specs.Machine.{first_or_false}
 use Rattle.surface_check.specs.Renamed.{numbers_in}
 use Rattle.surface_check.specs.Steps.{Items, Open, top, noted, all_noted, using, left_turn, stands, is_carried, bound_in, as_many, values_of, end_for, plain, ended}
 
--- one more name is noted
-pub notes_on : (t : Names ℕ) (hidden : ℕ → Bool) (inner : List ℕ) (k x : ℕ) (old rest used new orig first : List ℕ) → 0 < length old
-    → slice_get old 0 ≡ Some x → rest ≡ drop 1 old → new ≡ noted t hidden inner k used x
-    → all_noted t hidden inner k used old ≡ all_noted t hidden inner k first orig → all_noted t hidden inner k new rest ≡ all_noted t hidden inner k first orig
-notes_on t hidden inner k x [] rest used new orig first l g r n h = absurd (omega (arith, l))
-notes_on t hidden inner k x (y ∷ ys) rest used new orig first l g r n h =
-    let e : x ≡ y = cc in
-    let f : new ≡ noted t hidden inner k used y = n ∙ ap (noted t hidden inner k used) e in
-    ap (all_noted t hidden inner k new) r ∙ ap (λ z. all_noted t hidden inner k z ys) f ∙ h
-
-pub nothing_to_note : (t : Names ℕ) (hidden : ℕ → Bool) (inner : List ℕ) (k : ℕ) (used xs : List ℕ) → length xs ≤ 0 → all_noted t hidden inner k used xs ≡ used
-nothing_to_note t hidden inner k used [] h = refl
-nothing_to_note t hidden inner k used (x ∷ xs) h = absurd (omega (arith, h))
-
 same_itself : (xs : List ℕ) → same_ranks xs xs ≡ true
 same_itself [] = refl
 same_itself (x ∷ xs) = rw (eq-eqb x x refl) (same_itself xs)
@@ -100,24 +86,6 @@ last_first (x ∷ y ∷ ys) = ap (slice_get (x ∷ y ∷ ys)) (two_less (length 
 
     one_less : (n : ℕ) → suc n - 1 ≡ n
     one_less n = omega arith
-
-top_is : (fs : List Frame) → top fs ≡ slice_get fs 0
-top_is [] = refl
-top_is (f ∷ fs) = refl
-
-pub top_last : (fs : List Frame) → slice_get fs (length fs - 1) ≡ top (reverse fs)
-top_last fs = last_first fs ∙ sym (top_is (reverse fs))
-
-abbrev pub first_of : Option Bool → Bool
-first_of None = false
-first_of (Some b) = b
-
-first_is : (bs : List Bool) → first_or_false bs ≡ first_of (slice_get bs 0)
-first_is [] = refl
-first_is (b ∷ bs) = refl
-
-pub first_last : (bs : List Bool) → first_of (slice_get bs (length bs - 1)) ≡ first_or_false (reverse bs)
-first_last bs = ap first_of (last_first bs) ∙ sym (first_is (reverse bs))
 
 -- a loop that is left after its body
 pub left_after : (k : Items ℕ) (s : Open ℕ) (outer : Turn) (mark : ℕ)

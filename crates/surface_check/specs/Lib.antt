@@ -8,3 +8,4 @@ pub mod Checks
 pub mod Callees
 pub mod Stack
 pub mod Machine
+pub mod Programs
