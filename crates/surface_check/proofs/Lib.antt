@@ -26,3 +26,8 @@ pub mod RenamedLoops
 pub mod OtherMain
 pub mod Numbers
 pub mod Whole
+pub mod Alike
+pub mod Closings
+pub mod OpenParts
+pub mod Dispatch
+pub mod Programs

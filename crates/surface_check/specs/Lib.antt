@@ -7,3 +7,6 @@ pub mod Table
 pub mod Checks
 pub mod Callees
 pub mod NumbersChecked
+pub mod Stack
+pub mod Machine
+pub mod Programs

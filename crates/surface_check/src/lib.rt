@@ -2,12 +2,18 @@
 //! returned.
 #![tactic(auto)]
 
+mod ahead;
+mod array_parameters;
+mod bindings;
 pub mod callee;
+pub mod checked;
 mod constant;
 pub mod entry;
 pub mod evaluation;
 pub mod frame;
 pub mod heads;
+mod machine;
+mod opened;
 pub mod table;
 
 ghost use Rattle.surface_check.specs.Checks.{WordsAreChecked};
