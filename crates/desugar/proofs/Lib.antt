@@ -24,3 +24,6 @@ pub mod RenamedFlags
 pub mod Compared
 pub mod ComparedFlags
 pub mod Numbers
+pub mod Stacks
+pub mod Gaps
+pub mod Backward

@@ -5,3 +5,6 @@ pub mod StepsDesugar
 pub mod Flags
 pub mod Renamed
 pub mod NumbersDesugar
+pub mod Code
+pub mod Open
+pub mod Passed
