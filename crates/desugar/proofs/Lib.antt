@@ -32,3 +32,6 @@ pub mod HiddenSpelled
 pub mod CoreMade
 pub mod TextNames
 pub mod DeepSteps
+pub mod Stacks
+pub mod Gaps
+pub mod Backward

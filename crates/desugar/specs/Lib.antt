@@ -10,3 +10,6 @@ pub mod PlacedWords
 pub mod Tables
 pub mod CoreMade
 pub mod DeepSteps
+pub mod Code
+pub mod Open
+pub mod Passed
