@@ -3,5 +3,7 @@
 #![tactic(auto)]
 
 mod giving;
+mod runs;
 mod taking;
 mod texts;
+mod values;
