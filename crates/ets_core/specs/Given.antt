@@ -1,5 +1,5 @@
 -- WHAT AN EXPORT GIVES of an input: the text that the command prints of it.
-use Rattle.std.specs.Prelude.{◌≡◌, ℕ, ◌<◌, ◌≤◌, ◌⊎◌, List, [], length, Option, Some, Result, Ok}
+use Rattle.std.specs.Prelude.{◌≡◌, ℕ, ◌<◌, ◌≤◌, ◌⊎◌, List, [], length, Option, Some, Result, Ok, Err}
 use Rattle.std.specs.declared.io.Error.{Error}
 use Rattle.outcomes.specs.declared.refusal.Refusal.{Refusal}
 use Rattle.outcomes.specs.declared.outcome.Outcome.{Outcome}
@@ -22,10 +22,19 @@ Told Prints input outcome text =
     ((length input ≤ 67108864) × Prints (Ok outcome) (Some []) (Some text))
     ⊎ (((67108864 < length input) × IsRefusal Refusal.Input outcome text) ⊎ IsRefusal Refusal.Memory outcome text)
 
--- The buffer, which held `old`, has that text where it is long enough, and what is said of it tells how long it is.
+-- The buffer, which held `old`, has the text where it is long enough, and what is said of it tells how long it is.
+pub record Answers (outcome : Outcome) (text old new : List ℕ) (said : EtsResult) : Type 0 where
+  pub written : new ≡ filled text old
+  pub result : said ≡ result_of outcome (length text) (length old)
+
+-- So the buffer has what the command prints of the input.
 pub record Gives (Prints : Printing) (input old new : List ℕ) (said : EtsResult) : Type 0 where
   pub outcome : Outcome
   pub text : List ℕ
   pub told : Told Prints input outcome text
-  pub written : new ≡ filled text old
-  pub result : said ≡ result_of outcome (length text) (length old)
+  pub answers : Answers outcome text old new said
+
+-- WHAT IS ANSWERED where this was printed: the text of the outcome; or that memory was refused, where it could not be printed.
+abbrev pub Answered : Result Outcome Error → List ℕ → List ℕ → List ℕ → EtsResult → Type 0
+Answered (Ok outcome) text old new said = Answers outcome text old new said
+Answered (Err e) text old new said = Answers (Outcome.Refused Refusal.Memory) (refusal_line Refusal.Memory) old new said

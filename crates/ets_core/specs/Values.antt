@@ -1,5 +1,5 @@
 -- The values of a report as C has them.
-use Rattle.std.specs.Prelude.{ℕ, List, length, Option, Some, None}
+use Rattle.std.specs.Prelude.{ℕ, pos, List, length, Option, Some, None}
 use Rattle.tags.specs.Packed.{origin_code}
 use Rattle.tags.specs.declared.value.Value.{Value}
 use Rattle.tags.specs.declared.value.FaultKind.{FaultKind}
@@ -17,10 +17,10 @@ use Rattle.ets_core.specs.declared.values.EtsReport.{EtsReport}
 use Rattle.ets_core.specs.declared.values.EtsValue.{EtsValue}
 
 abbrev pub value_of : Option Value → EtsValue
-value_of None = record { tag = 0; origin = 0; integer = 0 }
+value_of None = record { tag = 0; origin = 0; integer = pos 0 }
 value_of (Some (Value.Int z)) = record { tag = 1; origin = 0; integer = z }
-value_of (Some (Value.Fault FaultKind.Zero o)) = record { tag = 2; origin = origin_code o; integer = 0 }
-value_of (Some (Value.Fault FaultKind.Range o)) = record { tag = 3; origin = origin_code o; integer = 0 }
+value_of (Some (Value.Fault FaultKind.Zero o)) = record { tag = 2; origin = origin_code o; integer = pos 0 }
+value_of (Some (Value.Fault FaultKind.Range o)) = record { tag = 3; origin = origin_code o; integer = pos 0 }
 
 abbrev pub cell_of : ℕ × Value → EtsCell
 cell_of cell = record { cell = cell.0; reserved = 0; value = value_of (Some cell.1) }

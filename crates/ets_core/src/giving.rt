@@ -1,7 +1,10 @@
 //! How an export answers.
 
-ghost use Rattle.std.specs.Prelude.{◌≡◌, ◌<◌, ◌≤◌, ◌↔◌, IsTrue, List, ℕ, [], Some, length};
-ghost use Rattle.ets_core.specs.Given.{Gives, Printing};
+ghost use Rattle.std.specs.Prelude.{◌≡◌, ◌<◌, ◌≤◌, IsFalse, IsTrue, length};
+ghost use Rattle.commands.specs.Refusals.{refusal_line};
+ghost use Rattle.outcomes.specs.declared.outcome.Outcome.TheVariants.{Refused};
+ghost use Rattle.outcomes.specs.declared.refusal.Refusal.TheVariants.{Input};
+ghost use Rattle.ets_core.specs.Given.{Answered, Answers};
 
 use answers::{EtsResult, answer};
 use outcomes::{Outcome, Refusal};
@@ -12,15 +15,15 @@ const LONGEST: usize = 67_108_864;
 
 /// Whether the input is too long for a command.
 pub(crate) fn is_too_long(input: &[u8]) -> bool
-    ensures { IsTrue result ↔ (67108864 < length input.now) }
+    ensures long { IsTrue result → 67108864 < length input.now }
+    ensures short { IsFalse result → length input.now ≤ 67108864 }
 {
     LONGEST < input.len()
 }
 
 /// Answers that the input is too long.
-pub(crate) fn refuse_length(input: &[u8], buffer: &mut [u8]) -> EtsResult
-    requires { 67108864 < length input.now }
-    ensures { (Prints : Printing) → Gives Prints input.now buffer.old buffer.new result }
+pub(crate) fn refuse_length(buffer: &mut [u8]) -> EtsResult
+    ensures { Answers (Refused Input) (refusal_line Input) buffer.old buffer.new result }
 {
     answer(
         &Outcome::Refused(Refusal::Input),
@@ -29,15 +32,9 @@ pub(crate) fn refuse_length(input: &[u8], buffer: &mut [u8]) -> EtsResult
     )
 }
 
-/// Answers with what was printed of the input; or that memory was refused, where it could not be printed.
-pub(crate) fn give(
-    input: &[u8],
-    printed: io::Result<Outcome>,
-    text: &[u8],
-    buffer: &mut [u8],
-) -> EtsResult
-    requires { length input.now ≤ 67108864 }
-    ensures { (Prints : Printing) → Prints printed (Some []) (Some text.now) → Gives Prints input.now buffer.old buffer.new result }
+/// Answers with what was printed; or that memory was refused, where it could not be printed.
+pub(crate) fn give(printed: io::Result<Outcome>, text: &[u8], buffer: &mut [u8]) -> EtsResult
+    ensures { Answered printed text.now buffer.old buffer.new result }
 {
     match printed {
         Ok(outcome) => answer(&outcome, text, buffer),

@@ -28,11 +28,11 @@ pub extern "C" fn ets_lower(alloc: Global, program: &[u8], text: &mut [u8]) -> E
     ensures { Gives (λ r old new. PrintsLowered graph_and_inputs r old new program.now) program.now text.old text.new result }
 {
     if is_too_long(program) {
-        return refuse_length(program, text);
+        return refuse_length(text);
     }
     let mut printed = Vec::new(alloc);
     let outcome = print_lowered(alloc, program, &mut printed);
-    give(program, outcome, &printed, text)
+    give(outcome, &printed, text)
 }
 
 /// Maps the graph of a program: for each node a line with its place in the program.
@@ -41,11 +41,11 @@ pub extern "C" fn ets_map(alloc: Global, program: &[u8], text: &mut [u8]) -> Ets
     ensures { Gives (λ r old new. PrintsLowered map_of r old new program.now) program.now text.old text.new result }
 {
     if is_too_long(program) {
-        return refuse_length(program, text);
+        return refuse_length(text);
     }
     let mut printed = Vec::new(alloc);
     let outcome = print_map(alloc, program, &mut printed);
-    give(program, outcome, &printed, text)
+    give(outcome, &printed, text)
 }
 
 /// Checks a graph: `ok`, or what is wrong with it first.
@@ -54,11 +54,11 @@ pub extern "C" fn ets_check(alloc: Global, graph: &[u8], text: &mut [u8]) -> Ets
     ensures { Gives (λ r old new. PrintsCheck r old new graph.now) graph.now text.old text.new result }
 {
     if is_too_long(graph) {
-        return refuse_length(graph, text);
+        return refuse_length(text);
     }
     let mut printed = Vec::new(alloc);
     let outcome = print_check(alloc, graph, &mut printed);
-    give(graph, outcome, &printed, text)
+    give(outcome, &printed, text)
 }
 
 /// Compiles a graph: the bytes of its object.
@@ -67,11 +67,11 @@ pub extern "C" fn ets_compile(alloc: Global, graph: &[u8], text: &mut [u8]) -> E
     ensures { Gives (λ r old new. PrintsObject r old new graph.now) graph.now text.old text.new result }
 {
     if is_too_long(graph) {
-        return refuse_length(graph, text);
+        return refuse_length(text);
     }
     let mut printed = Vec::new(alloc);
     let outcome = print_object(alloc, graph, &mut printed);
-    give(graph, outcome, &printed, text)
+    give(outcome, &printed, text)
 }
 
 /// Lists an object.
@@ -80,11 +80,11 @@ pub extern "C" fn ets_list(alloc: Global, object: &[u8], text: &mut [u8]) -> Ets
     ensures { Gives (λ r old new. PrintsOf listing_of r old new object.now) object.now text.old text.new result }
 {
     if is_too_long(object) {
-        return refuse_length(object, text);
+        return refuse_length(text);
     }
     let mut printed = Vec::new(alloc);
     let outcome = print_listing(object, &mut printed);
-    give(object, outcome, &printed, text)
+    give(outcome, &printed, text)
 }
 
 /// Lists an object, and its table of literals.
@@ -93,11 +93,11 @@ pub extern "C" fn ets_list_literals(alloc: Global, object: &[u8], text: &mut [u8
     ensures { Gives (λ r old new. PrintsOf listing_with_literals_of r old new object.now) object.now text.old text.new result }
 {
     if is_too_long(object) {
-        return refuse_length(object, text);
+        return refuse_length(text);
     }
     let mut printed = Vec::new(alloc);
     let outcome = print_listing_with_literals(object, &mut printed);
-    give(object, outcome, &printed, text)
+    give(outcome, &printed, text)
 }
 
 /// Writes an object as version 2.
@@ -106,11 +106,11 @@ pub extern "C" fn ets_upgrade(alloc: Global, object: &[u8], text: &mut [u8]) -> 
     ensures { Gives (λ r old new. PrintsOf upgrade_of r old new object.now) object.now text.old text.new result }
 {
     if is_too_long(object) {
-        return refuse_length(object, text);
+        return refuse_length(text);
     }
     let mut printed = Vec::new(alloc);
     let outcome = print_upgrade(object, &mut printed);
-    give(object, outcome, &printed, text)
+    give(outcome, &printed, text)
 }
 
 /// Assembles a listing: the bytes of the object.
@@ -119,11 +119,11 @@ pub extern "C" fn ets_assemble(alloc: Global, listing: &[u8], text: &mut [u8]) -
     ensures { Gives (λ r old new. PrintsAssembled r old new listing.now) listing.now text.old text.new result }
 {
     if is_too_long(listing) {
-        return refuse_length(listing, text);
+        return refuse_length(text);
     }
     let mut printed = Vec::new(alloc);
     let outcome = print_assembled(alloc, listing, &mut printed);
-    give(listing, outcome, &printed, text)
+    give(outcome, &printed, text)
 }
 
 /// Draws a graph, as text for Graphviz.
@@ -132,11 +132,11 @@ pub extern "C" fn ets_draw(alloc: Global, graph: &[u8], text: &mut [u8]) -> EtsR
     ensures { Gives (λ r old new. PrintsPicture r old new graph.now) graph.now text.old text.new result }
 {
     if is_too_long(graph) {
-        return refuse_length(graph, text);
+        return refuse_length(text);
     }
     let mut printed = Vec::new(alloc);
     let outcome = print_graph_picture(alloc, graph, &mut printed);
-    give(graph, outcome, &printed, text)
+    give(outcome, &printed, text)
 }
 
 /// Draws the code of an object, as text for Graphviz.
@@ -145,11 +145,11 @@ pub extern "C" fn ets_draw_code(alloc: Global, object: &[u8], text: &mut [u8]) -
     ensures { Gives (λ r old new. PrintsOf picture_of r old new object.now) object.now text.old text.new result }
 {
     if is_too_long(object) {
-        return refuse_length(object, text);
+        return refuse_length(text);
     }
     let mut printed = Vec::new(alloc);
     let outcome = print_code_picture(object, &mut printed);
-    give(object, outcome, &printed, text)
+    give(outcome, &printed, text)
 }
 
 /// Runs a graph on these inputs: the report.
@@ -165,11 +165,11 @@ pub extern "C" fn ets_run_text(
         result }
 {
     if is_too_long(graph) {
-        return refuse_length(graph, text);
+        return refuse_length(text);
     }
     let mut printed = Vec::new(alloc);
     let outcome = print_run(alloc, graph, inputs, how, &mut printed);
-    give(graph, outcome, &printed, text)
+    give(outcome, &printed, text)
 }
 
 /// Runs an object on these inputs: the report.
@@ -185,11 +185,11 @@ pub extern "C" fn ets_exec_text(
         result }
 {
     if is_too_long(object) {
-        return refuse_length(object, text);
+        return refuse_length(text);
     }
     let mut printed = Vec::new(alloc);
     let outcome = print_object_run(alloc, object, inputs, how, &mut printed);
-    give(object, outcome, &printed, text)
+    give(outcome, &printed, text)
 }
 
 /// Runs the meaning of a graph on these inputs, for at most `steps` activities: what it gives.
@@ -205,9 +205,9 @@ pub extern "C" fn ets_mean_text(
         result }
 {
     if is_too_long(graph) {
-        return refuse_length(graph, text);
+        return refuse_length(text);
     }
     let mut printed = Vec::new(alloc);
     let outcome = print_meaning_on(alloc, graph, inputs, steps, &mut printed);
-    give(graph, outcome, &printed, text)
+    give(outcome, &printed, text)
 }
