@@ -10,7 +10,7 @@ returns-in-Some g c =
     let old = g.W.Write.contents c.args.writer.now in
     let new = g.W.Write.contents c.print_run_on.new.writer in
     let here = subst (λ (d : Config). PrintsRunOn c.args.text.now c.args.inputs.now d c.in-Some.take c.print_run_on.result old new) c.config_of.ensures
-        c.print_run_on.ensures in
+    c.print_run_on.ensures in
     subst (λ (o : Option Take). PrintsTaking (λ take. PrintsRunOn c.args.text.now c.args.inputs.now (config_of c.args.how.now) take) o
     c.print_run_on.result old new)
     (sym (sym c.take_of.ensures ∙ c.in-Some.is)) here
