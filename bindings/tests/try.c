@@ -10,9 +10,13 @@ void *__real_malloc(size_t size);
 void *__real_realloc(void *block, size_t size);
 void __real_free(void *block);
 
-static long live, growths, fails_at; /* 0: none fails */
+static long live, growths, refused_growths, fails_at; /* 0: none fails */
 
-static int refuses(void) { return fails_at != 0 && ++growths == fails_at; }
+static int refuses(void) {
+    int is_refused = fails_at != 0 && ++growths == fails_at;
+    refused_growths += is_refused;
+    return is_refused;
+}
 
 void *__wrap_malloc(size_t size) {
     void *block = refuses() ? NULL : __real_malloc(size);
@@ -39,8 +43,6 @@ static const char *file = "";
 /* A call, and what it is given beside the buffer. */
 enum { SIMPLE = 10, CALLS = 13 };
 
-static const char *const names[CALLS] = {"lower", "map", "check", "compile", "draw", "list", "list_literals", "assemble", "upgrade", "draw_code", "run_text",
-                                         "exec_text", "mean_text"};
 static const int64_t inputs[2] = {6, 3};
 
 static ets_result call(int number, const uint8_t *input, size_t size, size_t count, uint32_t take, uint8_t *text, size_t room) {
@@ -67,12 +69,16 @@ enum { WHOLE = 1 << 22 };
 static uint8_t *whole, *part;
 
 static ets_result whole_of(int number, const uint8_t *input, size_t size, size_t count, uint32_t take) {
-    memset(whole, 0xA5, WHOLE);
     long before = live;
-    ets_result result = call(number, input, size, count, take, whole, WHOLE);
+    ets_result asked = call(number, input, size, count, take, part, 0);
     WANT(live == before);
-    WANT(result.needed <= WHOLE && result.status != ETS_ROOM);
-    WANT(is_filled(whole, result.needed, WHOLE));
+    WANT((asked.status == ETS_ROOM) == (asked.needed > 0));
+    WANT(asked.needed + 64 <= WHOLE);
+    memset(whole, 0xA5, asked.needed + 64);
+    ets_result result = call(number, input, size, count, take, whole, asked.needed + 64);
+    WANT(live == before);
+    WANT(result.needed == asked.needed && result.status != ETS_ROOM);
+    WANT(is_filled(whole, result.needed, result.needed + 64));
     WANT((result.status == ETS_OK) == (result.needed < 9 || memcmp(whole, "refused: ", 9) != 0));
     return result;
 }
@@ -198,7 +204,6 @@ int main(int words, char **word) {
         __real_free(damaged);
         __real_free(bytes);
     }
-    (void)names;
-    printf("try: %ld facts hold, %ld blocks are left\n", tried, live);
+    printf("%ld facts hold, %ld growths were refused, %ld blocks are left\n", tried, refused_growths, live);
     return live != 0;
 }
