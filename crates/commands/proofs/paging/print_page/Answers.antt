@@ -1,4 +1,4 @@
-use Rattle.std.proofs.Common.{ℕ, inl, ap, ◌∙◌, length, subst}
+use Rattle.std.proofs.Common.{ℕ, inl, inr, ap, ◌∙◌, length, subst}
 use Rattle.commands.specs.Traced.{IsPageOf, page_text, paged, first_of}
 use Rattle.commands.proofs.Served.{printed, stopped}
 use Rattle.commands.proofs.paging.print_page.Goals as goal
@@ -38,3 +38,6 @@ returns g c =
       subst (λ (m : ℕ). IsPageOf i o m k.checked k.object.bytes r run.books) c.in-Ok.ensures.first c.in-Ok.ensures.page,
       stopped _ _ _ _ _ _ (paged n r) same c.in-Err-write_page.ensures,
     )
+
+pub returns-in-Err : goal.returns-in-Err
+returns-in-Err g c = inr (c.in-Err.refusal, c.in-Err.ensures.page, c.refuse.ensures)
