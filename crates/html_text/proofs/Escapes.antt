@@ -1,13 +1,12 @@
 -- What is written of bytes needs no escape any more, and the same bytes are read back from it.
-use Rattle.std.proofs.Common.{◌≡◌, refl, sym, ◌∙◌, ap, subst, ℕ, zero, suc, ◌+◌, ◌*◌, ◌/◌, ◌%◌, ◌<◌, ◌≤◌, Bool, true, false, not, ◌&&◌}
+use Rattle.std.proofs.Common.{◌≡◌, refl, ◌∙◌, ap, subst, ℕ, zero, suc, ◌+◌, ◌*◌, ◌/◌, ◌%◌, ◌<◌, Bool, true, false, not, ◌&&◌}
 use Rattle.std.proofs.Common.{◌==◌, List, [], ◌∷◌, ◌++◌, arith}
-use Rattle.std.specs.Prelude.{All, nat_le, nat_lt, if◌then◌else◌}
+use Rattle.std.specs.Prelude.{nat_le, nat_lt, if◌then◌else◌}
 use Rattle.std.specs.List.{list_all}
 use Rattle.std.proofs.lemmas.Bool.{leb-true, ltb-true, ltb-false, eqb-true, not-true, and_parts, and_from}
 use Rattle.std.proofs.lemmas.List.Elements.{All-head, All-tail}
 use Rattle.std.proofs.lemmas.Nat.{div-add-mod'}
 use Rattle.sink.specs.Numbered.{numbered}
-use Rattle.html_text.specs.Plain.{is_special}
 use Rattle.html_text.specs.Escape.{is_bare, hex_digit, hex_value, escaped_byte, byte_at, escaped, a_byte, high_digit, read_as, IsWritten, AreBytes}
 use Rattle.html_text.specs.Escape.{EscapesAreInert, EscapesAreReadBack}
 use Rattle.html_text.proofs.Bytes.{plain, plain_means, join, all_from}

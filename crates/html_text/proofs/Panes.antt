@@ -1,7 +1,6 @@
 -- What is in a pane ends no script.
 use Rattle.std.proofs.Common.{◌≡◌, refl, ℕ, zero, suc, true, false, ◌&&◌, Bool, List, [], ◌∷◌}
 use Rattle.std.specs.Prelude.{codes, decimal, nat_le, nat_lt}
-use Rattle.std.specs.List.{list_all}
 use Rattle.std.proofs.lemmas.Bool.{and_parts}
 use Rattle.sink.specs.Numbered.{numbered}
 use Rattle.code_map.specs.declared.part.Part.{Part}

@@ -1,6 +1,6 @@
 -- BYTES AS PART OF A PAGE. A byte by which a text in a page could end, or something else begin, is written as `%` and two hexadecimal digits,
 -- and so is each that is no printing character of ASCII, and `%` itself.
-use Rattle.std.specs.Prelude.{◌≡◌, ℕ, ◌+◌, ◌-◌, ◌*◌, ◌/◌, ◌%◌, ◌<◌, ◌≤◌, ◌==◌, Bool, ◌&&◌, ◌||◌, not, nat_le, nat_lt, if◌then◌else◌, All, List, [], ◌∷◌, ◌++◌}
+use Rattle.std.specs.Prelude.{◌≡◌, ℕ, ◌+◌, ◌-◌, ◌*◌, ◌/◌, ◌%◌, ◌<◌, ◌≤◌, ◌==◌, Bool, ◌&&◌, not, nat_le, nat_lt, if◌then◌else◌, All, List, [], ◌∷◌}
 use Rattle.sink.specs.Numbered.{numbered}
 use Rattle.html_text.specs.Plain.{is_special, IsPlain}
 

@@ -1,6 +1,6 @@
 //! What the pane beside the code shows.
 
-ghost use Rattle.std.specs.Prelude.{◌≡◌, ◌++◌};
+ghost use Rattle.std.specs.Prelude.{◌≡◌};
 ghost use Rattle.html_text.specs.PaneText.{turn_mark, part_text, owner_text, owners_text, place_lead, next_number, block_text, places_text, program_text};
 ghost use Rattle.html_text.specs.PaneText.{pane_head, graph_parts, program_parts, graph_pane, program_pane, PanesAreInert, OwnersAreWhole};
 ghost use Rattle.sink.specs.Numbered.{numbered};

@@ -1,4 +1,4 @@
-use Rattle.std.proofs.Common.{◌++◌, ℕ, List, Option, Err, ap}
+use Rattle.std.proofs.Common.{◌++◌, ℕ, List, Option, Err}
 use Rattle.html_text.specs.declared.model.TheConstants.{MODEL}
 use Rattle.html_text.specs.declared.picture.TheConstants.{PICTURE}
 use Rattle.html_text.specs.declared.beside.TheConstants.{BESIDE}

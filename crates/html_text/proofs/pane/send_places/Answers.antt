@@ -1,4 +1,4 @@
-use Rattle.std.proofs.Common.{◌++◌, ℕ, List, Option, Err, ap}
+use Rattle.std.proofs.Common.{◌++◌, ℕ, List, Option, Err}
 use Rattle.std.specs.Prelude.{codes}
 use Rattle.sink.specs.Numbered.{numbered}
 use Rattle.html_text.specs.PaneText.{block_text}

@@ -1,4 +1,4 @@
-use Rattle.std.proofs.Common.{◌++◌, ℕ, List, Option, Err, ap}
+use Rattle.std.proofs.Common.{◌++◌, ℕ, List, Option, Err}
 use Rattle.std.specs.Prelude.{codes}
 use Rattle.html_text.specs.Escape.{escaped}
 use Rattle.std.proofs.lemmas.Result.{err_from_is_err_and}

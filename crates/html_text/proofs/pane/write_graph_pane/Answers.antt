@@ -1,4 +1,4 @@
-use Rattle.std.proofs.Common.{ℕ, List, Option, ap}
+use Rattle.std.proofs.Common.{ℕ, List, Option}
 use Rattle.html_text.specs.PaneText.{pane_head, graph_parts}
 use Rattle.std.proofs.lemmas.Result.{err_from_is_err_and}
 use Rattle.sink.proofs.Sent.{sends_from, sends_more, sends_less, sends_other}
