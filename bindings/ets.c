@@ -16,7 +16,7 @@ typedef struct asked {
     const int64_t *inputs;
     size_t count;
     const ets_how *how;
-    uint64_t steps;
+    uint64_t number; /* of steps, or of the command */
 } asked;
 
 static ets_result no_memory(void) {
@@ -60,7 +60,7 @@ static ets_result call_exec(const asked *a, uint8_t *bytes, size_t room) {
 }
 
 static ets_result call_mean(const asked *a, uint8_t *bytes, size_t room) {
-    return ets_mean_text(a->input, a->size, a->inputs, a->count, a->steps, bytes, room);
+    return ets_mean_text(a->input, a->size, a->inputs, a->count, a->number, bytes, room);
 }
 
 #define SIMPLE(name)                                                                                      \
@@ -92,6 +92,15 @@ RUNNING(exec_text, call_exec)
 
 ets_result ets_mean_text_new(const void *graph, size_t size, const int64_t *inputs, size_t count, uint64_t steps, ets_buffer *buffer) {
     asked a = {call_mean, NULL, some(graph), size, inputs ? inputs : no_inputs, count, NULL, steps};
+    return given(&a, buffer);
+}
+
+static ets_result call_explain(const asked *a, uint8_t *bytes, size_t room) {
+    return ets_explain((uint32_t)a->number, a->input, a->size, bytes, room);
+}
+
+ets_result ets_explain_new(uint32_t command, const void *input, size_t size, ets_buffer *buffer) {
+    asked a = {call_explain, NULL, some(input), size, no_inputs, 0, NULL, command};
     return given(&a, buffer);
 }
 

@@ -94,6 +94,16 @@ ets_result ets_draw_code(const uint8_t *object, size_t size, uint8_t *text, size
 /* The report of a run of the object with these inputs: `ets exec --mode one`. */
 ets_result ets_exec_text(const uint8_t *object, size_t size, const int64_t *inputs, size_t count, const ets_how *how, uint8_t *text, size_t room);
 
+/* EXPLAINING */
+/* The commands whose refusals are explained. */
+enum {
+    ETS_LOWER = 0, ETS_MAP = 1, ETS_CHECK_GRAPH = 2, ETS_COMPILE = 3, ETS_DRAW = 4, ETS_LIST = 5, ETS_LIST_LITERALS = 6, ETS_ASSEMBLE = 7,
+    ETS_UPGRADE = 8, ETS_DRAW_CODE = 9
+};
+/* The hint that a person gets on standard error after this command over the input: lines that begin with "hint: ", and no byte where the command
+ * does not refuse it. The status is ETS_OK then, too. */
+ets_result ets_explain(uint32_t command, const uint8_t *input, size_t size, uint8_t *text, size_t room);
+
 /* VALUES */
 /* A value, or that there is none. */
 typedef struct {
@@ -165,6 +175,8 @@ ets_result ets_draw_code_new(const void *object, size_t size, ets_buffer *text);
 ets_result ets_run_text_new(const void *graph, size_t size, const int64_t *inputs, size_t count, const ets_how *how, ets_buffer *text);
 ets_result ets_exec_text_new(const void *object, size_t size, const int64_t *inputs, size_t count, const ets_how *how, ets_buffer *text);
 ets_result ets_mean_text_new(const void *graph, size_t size, const int64_t *inputs, size_t count, uint64_t steps, ets_buffer *text);
+
+ets_result ets_explain_new(uint32_t command, const void *input, size_t size, ets_buffer *text);
 
 /* What ets_run gives, in buffers of its own. */
 typedef struct {

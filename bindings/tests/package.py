@@ -22,7 +22,7 @@ def story(**how):
         try:
             said.append(bad())
         except ets.EtsError as why:
-            said.append((str(why), why.stage, why.kind, why.line, why.column, why.block, why.node))
+            said.append((str(why), why.stage, why.kind, why.line, why.column, why.block, why.node, why.hint))
     return said
 
 
@@ -30,6 +30,7 @@ library, program = story(library=sys.argv[2]), story(program=sys.argv[1])
 assert library == program, [pair for pair in zip(library, program) if pair[0] != pair[1]]
 fault = library[1][1]
 assert fault.kind == "zero" and fault.block is not None and library[-6][1:5] == ("program", "NoSuchName", 2, 2), library[-6:]
+assert library[-6][7].startswith("hint: "), library[-6]
 ets.use(library=sys.argv[2])
 events = ets.Program("fn main(n) { n * 2 }").graph().object().events([21])
 assert events and events[-1].to.kind in ("output", "release") and any(it.value == 42 for it in events), events

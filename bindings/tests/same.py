@@ -18,6 +18,7 @@ def same(name, a, b):
 
 
 def simple(name, call, data):
+    same(f"hint of {call} of {name}", library.explain(call, data), program.explain(call, data))
     return same(f"{call} of {name}", library.simple(call, data), program.simple(call, data))
 
 

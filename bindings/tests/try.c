@@ -41,7 +41,7 @@ static const char *file = "";
 #define WANT(holds) do { tried++; if (!(holds)) { fprintf(stderr, "%s:%d: %s: not %s\n", __FILE__, __LINE__, file, #holds); exit(1); } } while (0)
 
 /* A call, and what it is given beside the buffer. */
-enum { SIMPLE = 10, CALLS = 13 };
+enum { SIMPLE = 10, CALLS = 24 }; /* From 13 on the explanations, the last one of no command. */
 
 static const int64_t inputs[2] = {6, 3};
 
@@ -52,7 +52,8 @@ static ets_result call(int number, const uint8_t *input, size_t size, size_t cou
     if (number < SIMPLE) return simple[number](input, size, text, room);
     if (number == 10) return ets_run_text(input, size, inputs, count, &how, text, room);
     if (number == 11) return ets_exec_text(input, size, inputs, count, &how, text, room);
-    return ets_mean_text(input, size, inputs, count, 20000, text, room);
+    if (number == 12) return ets_mean_text(input, size, inputs, count, 20000, text, room);
+    return ets_explain((uint32_t)number - 13, input, size, text, room);
 }
 
 static int same_result(ets_result a, ets_result b) {
@@ -165,10 +166,10 @@ static uint32_t drawn(uint32_t below) {
 /* All calls on these bytes. `deep`: each size of a buffer, and each growth refused. */
 static void all_calls(const uint8_t *bytes, size_t size, int deep) {
     for (int number = 0; number < CALLS; number++)
-        for (size_t count = 0; count < (number < SIMPLE ? 1u : 3u); count++)
+        for (size_t count = 0; count < (number < SIMPLE || number > 12 ? 1u : 3u); count++)
             for (uint32_t take = 0; take < (number == 10 || number == 11 ? 3u : 1u); take++) {
                 ets_result all = whole_of(number, bytes, size, count, take);
-                WANT(take < 2 || all.status == ETS_START);
+                WANT((take < 2 && number < 23) || all.status == ETS_START);
                 size_t step = deep ? 1 : all.needed + 1;
                 for (size_t room = deep ? 0 : all.needed; room <= all.needed + 1; room += step) with_room(number, bytes, size, count, take, all, room);
                 if (all.needed > 0) with_room(number, bytes, size, count, take, all, all.needed - 1);

@@ -36,15 +36,20 @@ def use(*, library: Optional[str] = None, program: Optional[str] = None) -> None
 class EtsError(Exception):
     """A refusal: at what work (`stage`), its `kind`, and where: `line` and `column` from 1, `block` and `node` from 0, where they are known."""
 
-    def __init__(self, text: str):
+    def __init__(self, text: str, command: str = "", data: bytes = b""):
         words = text.split()
-        self.text = text
+        self.text, self._command, self._data = text, command, data
         self.stage = words[1] if len(words) > 1 else ""
         self.kind = words[2] if len(words) > 2 and words[1] != "input" else self.stage
         self.place = {name: _number(value) for name, value in zip(words, words[1:]) if name in ("line", "column", "block", "node")}
         self.line, self.column = self.place.get("line"), self.place.get("column")
         self.block, self.node = self.place.get("block"), self.place.get("node")
         super().__init__(text.strip())
+
+    @property
+    def hint(self) -> str:
+        """What a person reads of it: where its cause is, and the cause. Empty where it is of a run."""
+        return backend().explain(self._command, self._data).decode() if self._command else ""
 
 
 @dataclass(frozen=True)
@@ -127,6 +132,13 @@ def _given(answer: tuple[int, bytes]) -> bytes:
     return answer[1]
 
 
+def _simple(name: str, data: bytes) -> bytes:
+    answer = backend().simple(name, data)
+    if answer[1].startswith(b"refused: "):
+        raise EtsError(answer[1].decode(), name, data)
+    return answer[1]
+
+
 def _report(answer: tuple[int, bytes]) -> Report:
     text = _given(answer).decode()
     report = Report([], {}, "", text=text)
@@ -159,11 +171,11 @@ class Program:
 
     def graph(self) -> Graph:
         """The graph that it is lowered to, with the inputs that follow the program."""
-        return Graph(_given(backend().simple("lower", self.text)))
+        return Graph(_simple("lower", self.text))
 
     def places(self) -> dict[tuple[int, int], tuple[int, int]]:
         """For each node of the graph, by block and node, its line and column in the program."""
-        lines = _given(backend().simple("map", self.text)).decode().splitlines()
+        lines = _simple("map", self.text).decode().splitlines()
         return {(int(w[1]), int(w[2])): (int(w[4]), int(w[6])) for w in map(str.split, lines)}
 
 
@@ -189,14 +201,14 @@ class Graph:
 
     def check(self) -> None:
         """Raises EtsError where the graph is not good."""
-        _given(backend().simple("check", self.text))
+        _simple("check", self.text)
 
     def object(self) -> Object:
-        return Object(_given(backend().simple("compile", self.text)))
+        return Object(_simple("compile", self.text))
 
     def dot(self) -> str:
         """A picture, as text for Graphviz."""
-        return _given(backend().simple("draw", self.text)).decode()
+        return _simple("draw", self.text).decode()
 
     def run(self, inputs: Optional[Sequence[int]] = None, *, elements: int = 1, frames: int = 256, steps: int = 1_000_000,
             take: str = "oldest") -> Report:
@@ -229,18 +241,18 @@ class Object:
 
     @classmethod
     def of_listing(cls, listing: Union[str, bytes]) -> Object:
-        return cls(_given(backend().simple("assemble", _bytes(listing))))
+        return cls(_simple("assemble", _bytes(listing)))
 
     def listing(self, *, literals: bool = False) -> str:
-        return _given(backend().simple("list_literals" if literals else "list", self.bytes)).decode()
+        return _simple("list_literals" if literals else "list", self.bytes).decode()
 
     def upgrade(self) -> Object:
         """The same as version 2."""
-        return Object(_given(backend().simple("upgrade", self.bytes)))
+        return Object(_simple("upgrade", self.bytes))
 
     def dot(self) -> str:
         """A picture of its code, as text for Graphviz."""
-        return _given(backend().simple("draw_code", self.bytes)).decode()
+        return _simple("draw_code", self.bytes).decode()
 
     def run(self, inputs: Sequence[int] = (), *, elements: int = 1, frames: int = 256, steps: int = 1_000_000, take: str = "oldest") -> Report:
         how = backend().how(elements, frames, steps, take)

@@ -69,6 +69,7 @@ class Library:
         text = [c.c_char_p, c.c_size_t]
         for name in SIMPLE:
             self._declare(name, text)
+        self._declare("explain", [c.c_uint32] + text)
         run = text + [c.POINTER(c.c_int64), c.c_size_t]
         self._declare("run_text", run + [c.POINTER(How)])
         self._declare("exec_text", run + [c.POINTER(How)])
@@ -93,6 +94,10 @@ class Library:
 
     def simple(self, name: str, data: bytes) -> tuple[int, bytes]:
         return self._printed(name, data, len(data))
+
+    def explain(self, name: str, data: bytes) -> bytes:
+        """The hint that the command gives after this input."""
+        return self._printed("explain", SIMPLE.index(name), data, len(data))[1]
 
     def _inputs(self, inputs: Sequence[int]):
         return (c.c_int64 * max(len(inputs), 1))(*map(signed, inputs)), len(inputs)

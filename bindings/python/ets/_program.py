@@ -22,6 +22,10 @@ class Program:
     def simple(self, name: str, data: bytes) -> tuple[int, bytes]:
         return self.printed(*COMMANDS[name], data=data)
 
+    def explain(self, name: str, data: bytes) -> bytes:
+        """The hint that the command gives after this input."""
+        return subprocess.run([self.path, *COMMANDS[name]], input=data, stdout=subprocess.DEVNULL, stderr=subprocess.PIPE).stderr
+
     @staticmethod
     def how(elements: int, frames: int, steps: int, take: str, events: bool = False) -> list[str]:
         if take not in ("oldest", "depth"):

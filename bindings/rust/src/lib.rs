@@ -59,6 +59,7 @@ extern "C" {
     fn ets_assemble(text: *const u8, size: usize, buffer: *mut u8, room: usize) -> RawResult;
     fn ets_upgrade(text: *const u8, size: usize, buffer: *mut u8, room: usize) -> RawResult;
     fn ets_draw_code(text: *const u8, size: usize, buffer: *mut u8, room: usize) -> RawResult;
+    fn ets_explain(command: u32, text: *const u8, size: usize, buffer: *mut u8, room: usize) -> RawResult;
     fn ets_run_text(text: *const u8, size: usize, inputs: *const i64, count: usize, how: *const How, buffer: *mut u8, room: usize) -> RawResult;
     fn ets_exec_text(text: *const u8, size: usize, inputs: *const i64, count: usize, how: *const How, buffer: *mut u8, room: usize) -> RawResult;
     fn ets_mean_text(text: *const u8, size: usize, inputs: *const i64, count: usize, steps: u64, buffer: *mut u8, room: usize) -> RawResult;
@@ -170,6 +171,27 @@ pub fn mean(graph: &[u8], inputs: &[i64], steps: u64) -> Result<Report, Refusal>
     printed(|bytes, room| unsafe { ets_mean_text(graph.as_ptr(), graph.len(), inputs.as_ptr(), inputs.len(), steps, bytes, room) }).map(report)
 }
 
+/// A command whose refusals are explained.
+#[derive(Clone, Copy, Debug, PartialEq, Eq)]
+pub enum Command {
+    Lower,
+    Map,
+    Check,
+    Compile,
+    Draw,
+    List,
+    ListLiterals,
+    Assemble,
+    Upgrade,
+    DrawCode,
+}
+
+/// The hint that a person gets after this command over the input; empty where there is none.
+pub fn explain(command: Command, input: &[u8]) -> Result<String, Refusal> {
+    printed(|bytes, room| unsafe { ets_explain(command as u32, input.as_ptr(), input.len(), bytes, room) })
+        .map(|it| String::from_utf8_lossy(&it.0).into_owned())
+}
+
 #[cfg(test)]
 mod tests {
     use super::*;
@@ -182,5 +204,7 @@ mod tests {
         assert!(ran.text.starts_with("output 0 42\n"));
         assert_eq!(ran, run(&graph, &[21], &How::default().by_depth()).unwrap());
         assert_eq!(lower(b"fn main(n) { m }").unwrap_err().column, Some(14));
+        assert!(explain(Command::Lower, b"fn main(n) { m }").unwrap().starts_with("hint: "));
+        assert_eq!(explain(Command::Lower, b"fn main(n) { n }").unwrap(), "");
     }
 }
