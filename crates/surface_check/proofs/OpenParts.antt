@@ -10,15 +10,12 @@ use Rattle.source.specs.declared.fault.FaultKind.TheVariants.{Arity, TooWide}
 use Rattle.surface.specs.declared.fault.Fault.{Fault}
 use Rattle.surface.specs.First.{◌>>=◌, must_be}
 use Rattle.surface.specs.Rules.{same_ranks, one_if}
-use Rattle.surface_check.specs.declared.frame.Frame.{Frame}
 use Rattle.surface_check.specs.declared.frame.Frame.TheVariants as frame
 use Rattle.surface_check.specs.declared.frame.Kind.{Kind}
 use Rattle.surface_check.specs.declared.frame.Kind.TheVariants as kind
 use Rattle.surface_check.specs.declared.frame.Turn.{Turn}
-use Rattle.surface_check.specs.Heads.{Names}
-use Rattle.surface_check.specs.Machine.{first_or_false}
 use Rattle.surface_check.specs.Renamed.{numbers_in}
-use Rattle.surface_check.specs.Steps.{Items, Open, top, noted, all_noted, using, left_turn, stands, is_carried, bound_in, as_many, values_of, end_for, plain, ended}
+use Rattle.surface_check.specs.Steps.{Items, Open, using, left_turn, stands, is_carried, bound_in, as_many, values_of, end_for, plain, ended}
 
 same_itself : (xs : List ℕ) → same_ranks xs xs ≡ true
 same_itself [] = refl

@@ -1,5 +1,5 @@
 -- A program that is checked by its words.
-use Rattle.std.specs.Prelude.{◌≡◌, refl, ℕ, ◌⊎◌, Bool, true, false, List, Result, Ok, Err, ⊤}
+use Rattle.std.specs.Prelude.{◌≡◌, ℕ, ◌⊎◌, Bool, true, false, List, Result, Ok, Err, ⊤}
 use Rattle.std.proofs.Common.{◌∙◌, sym, subst, inl, inr}
 use Rattle.source.specs.declared.fault.FaultKind.TheVariants.{NoMain}
 use Rattle.source.specs.Tree.{Name}
