@@ -2,3 +2,4 @@ pub mod Given
 pub mod Taken
 pub mod Values
 pub mod Runs
+pub mod Explained

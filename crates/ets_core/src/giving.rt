@@ -3,7 +3,7 @@
 ghost use Rattle.std.specs.Prelude.{◌≡◌, ◌<◌, ◌≤◌, IsFalse, IsTrue, length};
 ghost use Rattle.commands.specs.Refusals.{refusal_line};
 ghost use Rattle.outcomes.specs.declared.outcome.Outcome.TheVariants.{Refused};
-ghost use Rattle.outcomes.specs.declared.refusal.Refusal.TheVariants.{Input};
+ghost use Rattle.outcomes.specs.declared.refusal.Refusal.TheVariants.{Input, Memory};
 ghost use Rattle.ets_core.specs.Given.{Answered, Answers};
 
 use answers::{EtsResult, answer};
@@ -32,16 +32,23 @@ pub(crate) fn refuse_length(buffer: &mut [u8]) -> EtsResult
     )
 }
 
+/// Answers that memory was refused.
+pub(crate) fn refuse_memory(buffer: &mut [u8]) -> EtsResult
+    ensures { Answers (Refused Memory) (refusal_line Memory) buffer.old buffer.new result }
+{
+    answer(
+        &Outcome::Refused(Refusal::Memory),
+        b"refused: memory\n",
+        buffer,
+    )
+}
+
 /// Answers with what was printed; or that memory was refused, where it could not be printed.
 pub(crate) fn give(printed: io::Result<Outcome>, text: &[u8], buffer: &mut [u8]) -> EtsResult
     ensures { Answered printed text.now buffer.old buffer.new result }
 {
     match printed {
         Ok(outcome) => answer(&outcome, text, buffer),
-        Err(_refused) => answer(
-            &Outcome::Refused(Refusal::Memory),
-            b"refused: memory\n",
-            buffer,
-        ),
+        Err(_refused) => refuse_memory(buffer),
     }
 }

@@ -2,6 +2,7 @@
 //! goes into the caller's buffer, where it fits, and the result always says how long it is.
 #![tactic(auto)]
 
+mod explaining;
 mod giving;
 mod runs;
 mod taking;

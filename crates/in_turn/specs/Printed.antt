@@ -1,6 +1,6 @@
 -- What is printed of runs on integers: what the commands `run`, `exec` and `mean` print where their input has these integers, and a run is in the
 -- mode `one`.
-use Rattle.std.specs.Prelude.{◌≡◌, ℕ, ℤ, false, ◌⊎◌, List, Option, Result}
+use Rattle.std.specs.Prelude.{ℕ, ℤ, false, ◌⊎◌, List, Option, Result}
 use Rattle.tags.specs.declared.value.Value.{Value}
 use Rattle.semantics.specs.Graph.{Graph}
 use Rattle.semantics.specs.Report.{Report}
