@@ -1,11 +1,11 @@
 -- What an export gives, from what was printed of its input.
-use Rattle.std.proofs.Common.{◌≡◌, ℕ, ◌≤◌, List, [], length, Option, Some, Result, Ok, Err, inl, inr, refl, subst}
+use Rattle.std.proofs.Common.{◌≡◌, ℕ, ◌≤◌, List, [], length, Some, Result, Ok, Err, inl, inr, refl, subst}
 use Rattle.std.specs.declared.io.Error.{Error}
 use Rattle.outcomes.specs.declared.refusal.Refusal.{Refusal}
 use Rattle.outcomes.specs.declared.outcome.Outcome.{Outcome}
 use Rattle.commands.specs.Refusals.{refusal_line}
 use Rattle.answers.specs.declared.result.EtsResult.{EtsResult}
-use Rattle.ets_core.specs.Given.{Answered, Answers, Gives, Printing}
+use Rattle.ets_core.specs.Given.{Answered, Gives, Printing}
 
 gives : (Prints : Printing) (input old new : List ℕ) (said : EtsResult) (printed : Result Outcome Error) (text : List ℕ)
     → length input ≤ 67108864 → Prints printed (Some []) (Some text) → Answered printed text old new said → Gives Prints input old new said

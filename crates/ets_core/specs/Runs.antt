@@ -1,5 +1,5 @@
 -- WHAT `ets_run` GIVES: the values of a report of a run.
-use Rattle.std.specs.Prelude.{◌≡◌, ℕ, ℤ, ◌<◌, ◌+◌, zero, suc, false, ◌⊎◌, List, length, map, Option, Some, None, ⊤, nat_lt, if◌then◌else◌}
+use Rattle.std.specs.Prelude.{◌≡◌, ℕ, ℤ, ◌<◌, ◌+◌, zero, suc, false, ◌⊎◌, List, length, map, Option, Some, None, nat_lt, if◌then◌else◌}
 use Rattle.semantics.specs.Report.{Report}
 use Rattle.schedule.specs.declared.config.StartFault.{StartFault}
 use Rattle.schedule.specs.declared.take.Take.{Take}

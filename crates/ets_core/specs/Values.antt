@@ -1,5 +1,5 @@
 -- The values of a report as C has them.
-use Rattle.std.specs.Prelude.{ℕ, pos, List, length, Option, Some, None}
+use Rattle.std.specs.Prelude.{ℕ, pos, length, Option, Some, None}
 use Rattle.tags.specs.Packed.{origin_code}
 use Rattle.tags.specs.declared.value.Value.{Value}
 use Rattle.tags.specs.declared.value.FaultKind.{FaultKind}
