@@ -22,7 +22,7 @@
 extern "C" {
 #endif
 
-#define ETS_VERSION "0.3.5"
+#define ETS_VERSION "0.3.6"
 
 /* A place that there is not. */
 #define ETS_NONE UINT64_MAX

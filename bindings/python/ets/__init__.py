@@ -14,7 +14,7 @@ from typing import Optional, Sequence, Union
 from . import _library, _program
 
 __all__ = ["Address", "EtsError", "Event", "Fault", "Graph", "Object", "Program", "Report", "backend", "use"]
-__version__ = "0.3.5"
+__version__ = "0.3.6"
 
 _backend = None
 
