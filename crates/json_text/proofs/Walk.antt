@@ -1,7 +1,7 @@
 -- The walk over the pieces of a template, and over the lines of a text.
-use Rattle.std.proofs.Common.{◌≡◌, ℕ, Bool, true, false, List, [], ◌∷◌, ◌++◌, length, refl, sym, ap, ◌∙◌}
-use Rattle.std.specs.Prelude.{◌==◌, ◌&&◌, if◌then◌else◌}
-use Rattle.json_text.specs.Json.{Text, Object, after_piece, is_last, lines_text, object_end, open_after, piece_text, pieces_text, read_line, read_text}
+use Rattle.std.proofs.Common.{◌≡◌, ℕ, suc, Bool, true, false, List, [], ◌∷◌, ◌++◌, ap, ◌∙◌}
+use Rattle.std.specs.Prelude.{if◌then◌else◌}
+use Rattle.json_text.specs.Json.{Text, Object, after_piece, after_value, is_last, lines_text, next_value, object_end, open_after, piece_text, pieces_text, read_line, read_text, values_text}
 
 pub no_piece : (pieces : List Text) (words : Text) → pieces ≡ [] → pieces_text pieces words ≡ []
 unfolding pieces_text
@@ -29,3 +29,11 @@ last_line lines more text object e is = ap (λ (ls : List Text). lines_text obje
 pub next_line : (lines more : List Text) (text : Text) (object : Object) → lines ≡ text ∷ more → is_last text more ≡ false
     → lines_text object lines ≡ read_text object (read_line text) ++ lines_text (open_after object (read_line text).0) more
 next_line lines more text object e is = ap (λ (ls : List Text). lines_text object ls) e ∙ either_line text more object false is
+
+pub more_values : (n m : ℕ) (words : Text) → n ≡ suc m → values_text n words ≡ next_value words ++ values_text m (after_value words)
+unfolding values_text
+more_values n m words e = ap (λ (k : ℕ). values_text k words) e
+
+pub no_values : (n : ℕ) (words : Text) → n ≡ 0 → values_text n words ≡ []
+unfolding values_text
+no_values n words e = ap (λ (k : ℕ). values_text k words) e

@@ -1,6 +1,6 @@
 -- THE JSON OF A TEXT THAT A COMMAND PRINTS: one object, made from its lines. A graph and a picture are one string.
-use Rattle.std.specs.Prelude.{ℕ, ◌+◌, ◌-◌, ◌/◌, ◌%◌, ◌==◌, ◌&&◌, ◌||◌, Bool, true, false, not, nat_le, nat_lt, ℤ, pos, int_lt, List, [], ◌∷◌, ◌++◌, length, take, drop}
-use Rattle.std.specs.Prelude.{if◌then◌else◌, Option, Some, None, option_map, codes, flat_map}
+use Rattle.std.specs.Prelude.{ℕ, zero, suc, ◌+◌, ◌-◌, ◌/◌, ◌%◌, ◌==◌, ◌&&◌, ◌||◌, Bool, true, false, not, nat_le, nat_lt, ℤ, pos, int_lt, List, [], ◌∷◌, ◌++◌, length, take, drop}
+use Rattle.std.specs.Prelude.{if◌then◌else◌, Option, Some, None, codes, flat_map}
 use Rattle.std.specs.List.{position}
 use Rattle.std.specs.Str.{bytes_eq}
 use Rattle.graph_file.specs.Fields.{literal_of}
@@ -69,13 +69,54 @@ abbrev pub truth_text : Text → Text
 truth_text words = if length words == 0 then codes "true" else string words
 
 -- VALUES: an integer is a string; a fault `KIND` or `KIND at BLOCK NODE` an object
-abbrev pub fault_text : Text → Text
-fault_text words =
-    codes "{\"fault\":" ++ (word_text (head words) ++ (codes ",\"block\":" ++ (number_text (head (tail (tail words))) ++ (codes ",\"node\":"
-    ++ (number_text (tail (tail (tail words))) ++ codes "}")))))
+abbrev pub fault_text : Text → Text → Text → Text
+fault_text kind block node =
+    codes "{\"fault\":" ++ (word_text kind ++ (codes ",\"block\":" ++ (number_text block ++ (codes ",\"node\":" ++ (number_text node ++ codes "}")))))
+
+abbrev pub is_fault : Text → Bool
+is_fault words = bytes_eq (take 6 words) (codes "fault ")
+
+-- the words of a fault after its kind and `at`
+abbrev pub origin : Text → Text
+origin words = tail (tail words)
 
 abbrev pub value_text : Text → Text
-value_text words = if bytes_eq (take 6 words) (codes "fault ") then fault_text (drop 6 words) else word_text words
+value_text words =
+    if is_fault words then fault_text (head (drop 6 words)) (head (origin (drop 6 words))) (tail (origin (drop 6 words))) else word_text words
+
+-- A ROW OF VALUES: the first one, and the words after it
+abbrev pub is_placed : Text → Bool
+is_placed words = bytes_eq (head words) (codes "at")
+
+abbrev pub first_fault : Text → Text
+first_fault words =
+    if is_placed (tail words) then fault_text (head words) (head (origin words)) (head (tail (origin words))) else fault_text (head words) [] []
+
+abbrev pub first_value : Text → Text
+first_value words = if is_fault words then first_fault (drop 6 words) else word_text (head words)
+
+abbrev pub after_fault : Text → Text
+after_fault words = if is_placed words then tail (tail (tail words)) else words
+
+abbrev pub after_value : Text → Text
+after_value words = if is_fault words then after_fault (tail (drop 6 words)) else tail words
+
+abbrev pub separator : Text → Text
+separator words = if length words == 0 then [] else codes ","
+
+abbrev pub separated : Text → Text
+separated words = first_value words ++ separator (after_value words)
+
+abbrev pub next_value : Text → Text
+next_value words = if length words == 0 then [] else separated words
+
+-- a row has no more values than bytes
+unfoldable pub values_text : ℕ → Text → Text
+values_text zero words = []
+values_text (suc n) words = next_value words ++ values_text n (after_value words)
+
+abbrev pub row_text : Text → Text
+row_text words = codes "[" ++ (values_text (length words) words ++ codes "]")
 
 -- SLOTS of a template: what is put in place of the first word, or of all words that are left
 abbrev pub slot_of : ℕ → Slot
@@ -88,8 +129,9 @@ slot_of c =
     else (if c == 87 then Slot.LastWord
     else (if c == 78 then Slot.LastNumber
     else (if c == 118 then Slot.LastValue
+    else (if c == 114 then Slot.LastRow
     else (if c == 63 then Slot.Truth
-    else Slot.LastText))))))))
+    else Slot.LastText)))))))))
 
 abbrev pub slot_text : Slot → Text → Text
 slot_text Slot.Nothing words = []
@@ -100,6 +142,7 @@ slot_text Slot.Bound words = number_text (take (length (head words) - 1) (head w
 slot_text Slot.LastWord words = word_text words
 slot_text Slot.LastNumber words = number_text words
 slot_text Slot.LastValue words = value_text words
+slot_text Slot.LastRow words = row_text words
 slot_text Slot.Truth words = truth_text words
 slot_text Slot.LastText words = string words
 
@@ -182,7 +225,7 @@ list_of f = []
 abbrev pub template : Form → Text
 template Form.Output = codes "-|v"
 template Form.Cell = codes ".{\"array\":|w,\"index\":|n,\"value\":|v}"
-template Form.Row = codes ".{\"array\":|w,\"index\":|n,\"values\":|W}"
+template Form.Row = codes ".{\"array\":|w,\"index\":|n,\"values\":|r}"
 template Form.Deferred = codes ".\"deferred\":|N"
 template Form.Waiting = codes ".\"waiting\":{\"frames\":|n,\"credits\":|N}"
 template Form.FramesSuffice = codes ".\"frames_that_suffice\":|N"

@@ -145,7 +145,7 @@ impl Form {
         match self {
             Form::Output => b"-|v",
             Form::Cell => br#".{"array":|w,"index":|n,"value":|v}"#,
-            Form::Row => br#".{"array":|w,"index":|n,"values":|W}"#,
+            Form::Row => br#".{"array":|w,"index":|n,"values":|r}"#,
             Form::Deferred => br#"."deferred":|N"#,
             Form::Waiting => br#"."waiting":{"frames":|n,"credits":|N}"#,
             Form::FramesSuffice => br#"."frames_that_suffice":|N"#,

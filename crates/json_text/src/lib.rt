@@ -4,6 +4,7 @@
 
 mod form;
 mod object;
+mod row;
 mod slot;
 mod string;
 mod value;

@@ -4,6 +4,7 @@ ghost use Rattle.std.specs.Prelude.{◌≡◌};
 ghost use Rattle.sink.specs.Sends.{Sends};
 ghost use Rattle.json_text.specs.Json.{after_piece, filled, piece_rest, piece_slot, piece_text, slot_of, slot_text, words_after};
 
+use crate::row::send_row;
 use crate::string::send_string;
 use crate::value::{send_number, send_truth, send_value, send_word};
 use crate::words::{head, tail};
@@ -26,6 +27,8 @@ enum Slot {
     LastWord,
     LastNumber,
     LastValue,
+    /// A row of values.
+    LastRow,
     /// Whether no words are left.
     Truth,
     /// All words that are left, whatever they are.
@@ -45,6 +48,7 @@ fn slot_of(letter: u8) -> Slot
         b'W' => Slot::LastWord,
         b'N' => Slot::LastNumber,
         b'v' => Slot::LastValue,
+        b'r' => Slot::LastRow,
         b'?' => Slot::Truth,
         _ => Slot::LastText,
     }
@@ -70,6 +74,7 @@ fn send_slot<W: Write>(writer: &mut W, slot: Slot, words: &[u8]) -> io::Result<(
         Slot::LastWord => send_word(writer, words),
         Slot::LastNumber => send_number(writer, words),
         Slot::LastValue => send_value(writer, words),
+        Slot::LastRow => send_row(writer, words),
         Slot::Truth => send_truth(writer, words),
         Slot::LastText => send_string(writer, words),
     }

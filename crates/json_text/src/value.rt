@@ -3,7 +3,7 @@
 ghost use Rattle.std.specs.Prelude.{◌≡◌};
 ghost use Rattle.graph_file.specs.Fields.{literal_of};
 ghost use Rattle.sink.specs.Sends.{Sends};
-ghost use Rattle.json_text.specs.Json.{fault_text, is_count, is_nothing, number_text, truth_text, value_text, word_text};
+ghost use Rattle.json_text.specs.Json.{fault_text, is_count, is_nothing, number_text, origin, truth_text, value_text, word_text};
 
 use crate::string::send_string;
 use crate::words::{head, tail};
@@ -66,18 +66,29 @@ pub(crate) fn send_truth<W: Write>(writer: &mut W, words: &[u8]) -> io::Result<(
     }
 }
 
-/// Writes the fault.
-fn send_fault<W: Write>(writer: &mut W, words: &[u8]) -> io::Result<()>
-    ensures { Sends result (W.contents writer.old) (W.contents writer.new) (fault_text words.now) }
+/// Writes a fault of this kind that was made at this node of this block.
+pub(crate) fn send_fault<W: Write>(
+    writer: &mut W,
+    kind: &[u8],
+    block: &[u8],
+    node: &[u8],
+) -> io::Result<()>
+    ensures { Sends result (W.contents writer.old) (W.contents writer.new) (fault_text kind.now block.now node.now) }
 {
-    let origin = tail(tail(words));
     send(writer, b"{\"fault\":")?;
-    send_word(writer, head(words))?;
+    send_word(writer, kind)?;
     send(writer, b",\"block\":")?;
-    send_number(writer, head(origin))?;
+    send_number(writer, block)?;
     send(writer, b",\"node\":")?;
-    send_number(writer, tail(origin))?;
+    send_number(writer, node)?;
     send(writer, b"}")
+}
+
+/// The words of a fault after its kind and `at`.
+pub(crate) fn origin(words: &[u8]) -> &[u8]
+    ensures { result.now ≡ origin words.now }
+{
+    tail(tail(words))
 }
 
 /// Writes the value.
@@ -85,7 +96,10 @@ pub(crate) fn send_value<W: Write>(writer: &mut W, words: &[u8]) -> io::Result<(
     ensures { Sends result (W.contents writer.old) (W.contents writer.new) (value_text words.now) }
 {
     match words.strip_prefix(b"fault ") {
-        Some(fault) => send_fault(writer, fault),
+        Some(fault) => {
+            let origin = origin(fault);
+            send_fault(writer, head(fault), head(origin), tail(origin))
+        }
         None => send_word(writer, words),
     }
 }

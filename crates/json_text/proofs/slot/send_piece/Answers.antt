@@ -1,7 +1,6 @@
-use Rattle.std.proofs.Common.{ℕ, List, Option, [], ◌∷◌, ◌++◌, ap, ◌∙◌}
-use Rattle.std.specs.Prelude.{codes}
+use Rattle.std.proofs.Common.{ap}
 use Rattle.std.proofs.lemmas.Result.{err_from_is_err_and}
-use Rattle.json_text.specs.Json.{Text, piece_rest, piece_slot, slot_text}
+use Rattle.json_text.specs.Json.{piece_rest, piece_slot, slot_text}
 use Rattle.json_text.proofs.Steps.{after, stopped}
 use Rattle.sink.proofs.Sent.{sends_same}
 use Rattle.json_text.proofs.slot.send_piece.Goals as goal

@@ -1,7 +1,5 @@
-use Rattle.std.proofs.Common.{ℕ, List, Option, [], ◌∷◌, ◌++◌, ap, ◌∙◌}
-use Rattle.std.specs.Prelude.{codes}
 use Rattle.std.proofs.lemmas.Result.{err_from_is_err_and}
-use Rattle.json_text.specs.Json.{Text, list_begin, list_close}
+use Rattle.json_text.specs.Json.{list_begin, list_close}
 use Rattle.json_text.proofs.Steps.{after, stopped}
 use Rattle.json_text.proofs.object.Object.begin_item.Goals as goal
 
