@@ -21,8 +21,9 @@ function runCommand(module, words, input, files = {}) {
       return it.length;
     },
     open(name) {
-      const all = new Uint8Array(memory.buffer), from = name >>> 0, it = files[new TextDecoder().decode(all.slice(from, all.indexOf(0, from)))];
-      return it === undefined ? -2 : open.push({ it, at: 0 }) - 1;
+      const all = new Uint8Array(memory.buffer), from = name >>> 0, given = new TextDecoder().decode(all.slice(from, all.indexOf(0, from))), it = files[given];
+      if (it !== undefined) return open.push({ it, at: 0 }) - 1;
+      return Object.keys(files).some((other) => files[other] && given.startsWith(other + '/')) ? -20 : -2;
     },
     close(number) {
       open[number] = null;

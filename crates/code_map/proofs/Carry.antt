@@ -1,11 +1,10 @@
 -- What the passes make of places in the place of marks gives the owners.
-use Rattle.std.proofs.Common.{◌≡◌, ℕ, zero, suc, ◌+◌, ◌-◌, ◌<◌, ◌≤◌, Bool, true, false, List, [], ◌∷◌, ◌++◌, length, map, replicate, refl, sym, ap, subst, ◌∙◌, arith, Option, Some, None, drop}
-use Rattle.std.specs.Prelude.{if◌then◌else◌, slice_get, slice_index_or, unwrap_or}
-use Rattle.std.proofs.lemmas.List.{append_assoc, append-nil, length-append, length-replicate, replicate-append-replicate}
+use Rattle.std.proofs.Common.{◌≡◌, ℕ, ◌+◌, Bool, true, false, List, [], ◌∷◌, ◌++◌, length, map, replicate, refl, sym, ap, ◌∙◌}
+use Rattle.std.specs.Prelude.{if◌then◌else◌}
+use Rattle.std.proofs.lemmas.List.{append_assoc, length-append, length-replicate, replicate-append-replicate}
 use Rattle.semantics.specs.declared.program.Mark.{Mark}
-use Rattle.semantics.specs.declared.program.Mark.TheVariants.{Unmarked, OfCond, OfFlag}
-use Rattle.semantics.specs.Program.{Instr, CodeBlock}
-use Rattle.semantics.specs.Plan.{Plan}
+use Rattle.semantics.specs.declared.program.Mark.TheVariants.{Unmarked, OfCond}
+use Rattle.semantics.specs.Program.{Instr}
 use Rattle.folding.specs.Places as Folding
 use Rattle.folding.specs.Folded as Folded
 use Rattle.fanout.specs.Rows.{is_tied}

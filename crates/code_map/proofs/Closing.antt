@@ -1,7 +1,7 @@
 -- The joins of a block's ends: as many as the regions of the ends say, and they change nothing of what an instruction before them
 -- has for destinations before them.
-use Rattle.std.proofs.Common.{◌≡◌, ◌≢◌, ℕ, zero, suc, ◌+◌, ◌-◌, ◌<◌, ◌≤◌, ◌⊎◌, inl, inr, Bool, true, false, List, [], ◌∷◌, ◌++◌, length, map, replicate, refl, sym, ap, subst, ◌∙◌, arith, Option, Some, None, get_or, set}
-use Rattle.std.proofs.Common.{ltb, eqb, eqb-true, length-set, get_or-set_same, get_or-set_other}
+use Rattle.std.proofs.Common.{◌≡◌, ℕ, ◌+◌, ◌-◌, ◌<◌, ◌≤◌, Bool, true, false, List, [], ◌∷◌, ◌++◌, length, map, replicate, refl, sym, ap, subst, ◌∙◌, arith, Option, Some, None}
+use Rattle.std.proofs.Common.{eqb, eqb-true, length-set, get_or-set_same, get_or-set_other}
 use Rattle.std.specs.Prelude.{if◌then◌else◌, nat_lt}
 use Rattle.std.proofs.lemmas.List.{append_assoc, append-nil, length-append, length-replicate, get_or_append_left}
 use Rattle.std.proofs.lemmas.Bool.{eqb-false, le-ltb, lt-ltb, ltb-true, ltb-false}
@@ -21,7 +21,7 @@ use Rattle.semantics.specs.Program.{Instr}
 use Rattle.semantics.specs.declared.graph.Kind.{Kind}
 use Rattle.semantics.specs.Graph.{Node, Block}
 use Rattle.schemas.specs.Builds.{nowhere, Build, added, quieted, connected, behind, meeting, first_of, no_instr, with_dest, dest_of, bare, slot_in}
-use Rattle.schemas.specs.Ends.{Signalled, Closing, closing, end_at, same_region, join_ends, join_end, signalled, copied, ended, closed, closed_kind, closed_nodes, released}
+use Rattle.schemas.specs.Ends.{Signalled, Closing, closing, end_at, same_region, join_ends, signalled, copied, ended, closed, closed_kind, closed_nodes, released}
 use Rattle.schemas.specs.Blocks.{finished}
 use Rattle.code_map.specs.Ends.{all_behind}
 use Rattle.code_map.specs.declared.part.Part.{Part}
@@ -30,7 +30,7 @@ use Rattle.code_map.specs.Laws.{JoinsHaveOwners}
 use Rattle.code_map.specs.Joins as Joins
 use Rattle.code_map.specs.Joins.{Joined, ends_in, closed_parts}
 use Rattle.code_map.proofs.Inside.{at}
-use Rattle.code_map.proofs.Lengths.{Outlet, grows_added, grows_connected, grows_none, grows_behind, grows_meeting, type_of}
+use Rattle.code_map.proofs.Lengths.{Outlet, grows_added, grows_behind, grows_meeting, type_of}
 
 -- an end of a region
 abbrev pub End : Type 0

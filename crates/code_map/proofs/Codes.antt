@@ -1,12 +1,12 @@
 -- What is found of each code block of a graph's plan are the owners of its instructions.
-use Rattle.std.proofs.Common.{◌≡◌, ℕ, zero, suc, ◌+◌, Bool, true, false, List, [], ◌∷◌, ◌++◌, length, refl, sym, ap, ◌∙◌, arith, Option, Some, None}
+use Rattle.std.proofs.Common.{◌≡◌, ℕ, ◌+◌, Bool, true, false, List, [], ◌∷◌, ◌++◌, length, refl, sym, ap, ◌∙◌, Some}
 use Rattle.std.specs.Prelude.{if◌then◌else◌, slice_get, unwrap_or, All}
 use Rattle.std.proofs.lemmas.List.{append_assoc, append-nil, length-append}
 use Rattle.semantics.specs.declared.program.Mark.{Mark}
 use Rattle.lemmas.proofs.Alls.{all_at, all_from}
 use Rattle.semantics.specs.Graph.{Graph, Block, Flow, flow_of}
 use Rattle.semantics.specs.Text.{HasText, HasBlockText}
-use Rattle.semantics.specs.Program.{Instr, CodeBlock}
+use Rattle.semantics.specs.Program.{CodeBlock}
 use Rattle.semantics.specs.Plan.{Plan}
 use Rattle.code.specs.Holders.{instrs_of, instrs_in}
 use Rattle.code.specs.Marks.{marks_in}

@@ -1,5 +1,5 @@
 -- What the code of a block has before its ends are joined sends to instructions that it has itself.
-use Rattle.std.proofs.Common.{◌≡◌, ℕ, zero, suc, ◌+◌, ◌-◌, ◌<◌, ◌≤◌, Bool, true, false, List, [], ◌∷◌, ◌++◌, length, refl, sym, ap, subst, ◌∙◌, arith, Some, get_or, set, ◌⊎◌, inl, inr, eqb, eqb-true, length-set, get_or-set_same, get_or-set_other}
+use Rattle.std.proofs.Common.{◌≡◌, ℕ, zero, suc, ◌+◌, ◌<◌, ◌≤◌, Bool, true, false, List, [], ◌∷◌, ◌++◌, length, refl, sym, ap, subst, arith, Some, get_or, set, inl, inr, eqb, eqb-true, length-set, get_or-set_same, get_or-set_other}
 use Rattle.std.specs.Prelude.{if◌then◌else◌, ⊤}
 use Rattle.std.proofs.lemmas.Bool.{cases_lt, eqb-false}
 use Rattle.tags.specs.declared.value.Origin.{Origin}
@@ -16,17 +16,17 @@ use Rattle.semantics.specs.declared.program.Mark.TheVariants.{Unmarked, OfCond, 
 use Rattle.semantics.specs.declared.program.Op.{Op}
 use Rattle.semantics.specs.Program.{Instr}
 use Rattle.semantics.specs.Meaning.{origin_in}
-use Rattle.semantics.specs.Graph.{Node, Block}
+use Rattle.semantics.specs.Graph.{Node}
 use Rattle.schemas.specs.Scopes.{Scope, predicate_of}
 use Rattle.schemas.specs.Triggers.{has_trigger}
 use Rattle.schemas.specs.UseCounts.{is_often, uses_at}
-use Rattle.schemas.specs.Builds.{Build, nothing, added, quieted, connected, exited, behind, meeting, operands, alternatives, copies, outlet_of, side, first_of, second_of, trigger_of}
-use Rattle.schemas.specs.Builds.{nowhere, first_source, no_instr, with_dest, dest_of, bare, slot_in, outlet}
+use Rattle.schemas.specs.Builds.{Build, nothing, added, quieted, connected, behind, meeting, operands, alternatives, copies, outlet_of, side, first_of, second_of, trigger_of}
+use Rattle.schemas.specs.Builds.{first_source, no_instr, with_dest, dest_of, bare, slot_in, outlet}
 use Rattle.schemas.specs.Rows as Schemas
-use Rattle.schemas.specs.Tails.{returns, switches, next_values, last_values, turned_continuation, turned_flag, turning, turn_of, go_on, stop, turned, iterate}
+use Rattle.schemas.specs.Tails.{returns, switches, next_values, last_values, turned_continuation, turned_flag, turning, turn_of, go_on, stop, iterate}
 use Rattle.schemas.specs.declared.tail.Turn.{Turn}
 use Rattle.schemas.specs.Blocks.{entered, outputs_of, variant_of, with_kind, with_node, with_nodes, with_inputs, entries, body, repeated}
-use Rattle.code_map.proofs.Lengths.{Outlet, grows_none, grows_added, grows_connected, grows_behind, grows_meeting, grows_copies}
+use Rattle.code_map.proofs.Lengths.{Outlet, grows_added, grows_behind, grows_copies}
 
 abbrev pub at : Build → ℕ → Instr
 at b n = get_or b.instrs n no_instr

@@ -9,26 +9,25 @@ use Rattle.semantics.specs.declared.graph.Region.TheVariants.{Root, Arm}
 use Rattle.semantics.specs.declared.graph.Source.{Source}
 use Rattle.semantics.specs.declared.graph.Kind.{Kind}
 use Rattle.tags.specs.declared.value.Origin.TheVariants.{Untold}
-use Rattle.tags.specs.declared.token.Port.TheVariants.{Left, Right}
+use Rattle.tags.specs.declared.token.Port.TheVariants.{Left}
 use Rattle.semantics.specs.declared.program.Mark.{Mark}
-use Rattle.semantics.specs.declared.program.Mark.TheVariants.{Unmarked, OfCond, OfFlag}
+use Rattle.semantics.specs.declared.program.Mark.TheVariants.{Unmarked, OfCond}
 use Rattle.semantics.specs.declared.program.Op.{Op}
-use Rattle.semantics.specs.Program.{Instr}
 use Rattle.semantics.specs.Meaning.{origin_in}
-use Rattle.semantics.specs.Graph.{Node, Block, node_count}
+use Rattle.semantics.specs.Graph.{Node, Block}
 use Rattle.schemas.specs.Scopes.{Scope, predicate_of}
 use Rattle.schemas.specs.Triggers.{has_trigger}
 use Rattle.schemas.specs.declared.uses.Uses.{Uses}
 use Rattle.schemas.specs.UseCounts.{is_often, uses_at}
-use Rattle.schemas.specs.Builds.{Build, nothing, added, quieted, connected, connected_in, exited, behind, meeting, operands, alternatives, copies, outlet_of, side, first_of, trigger_of}
+use Rattle.schemas.specs.Builds.{Build, added, quieted, connected, exited, behind, meeting, operands, alternatives, copies, outlet_of, side, first_of, trigger_of}
 use Rattle.schemas.specs.Builds.{slot_in, bare}
 use Rattle.schemas.specs.Builds.{nowhere, first_source, second_of}
 use Rattle.schemas.specs.Rows as Schemas
-use Rattle.schemas.specs.Blocks.{answered, entered, outputs_of, variant_of, with_kind, with_node, with_nodes, with_inputs, entries, body, repeated}
+use Rattle.schemas.specs.Blocks.{entered, outputs_of, variant_of, with_kind, with_node, with_nodes, with_inputs, entries, body, repeated}
 use Rattle.code_map.specs.declared.part.Part.{Part}
 use Rattle.code_map.specs.Parts.{filled, continuation, input_parts, entry_parts, node_parts, body_parts}
 use Rattle.code_map.specs.Laws.{BodiesHaveOwners}
-use Rattle.code_map.specs.Counts.{Rows, no_rows, laid, one_if, gates_of, laid_call, laid_strict, laid_loop, laid_kind, laid_node, laid_nodes, laid_inputs, laid_entries, laid_body}
+use Rattle.code_map.specs.Counts.{Rows, no_rows, laid, one_if, gates_of, laid_call, laid_strict, laid_kind, laid_node, laid_nodes, laid_inputs, laid_entries, laid_body}
 
 abbrev pub type_of : {X : Type 0} → X → Type 0
 type_of {X} x = X

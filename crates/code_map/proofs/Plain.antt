@@ -1,27 +1,25 @@
 -- The parts of a plain block are found from the block and from its finished code.
-use Rattle.std.proofs.Common.{◌≡◌, ℕ, ◌+◌, ◌≤◌, false, List, [], length, refl, sym, ap, subst, ◌∙◌, arith, Option, None}
-use Rattle.semantics.specs.declared.graph.Region.{Region}
+use Rattle.std.proofs.Common.{◌≡◌, ℕ, ◌≤◌, false, List, length, refl, sym, ap, ◌∙◌, arith, None}
 use Rattle.semantics.specs.declared.graph.Region.TheVariants.{Root}
 use Rattle.tags.specs.declared.value.Origin.TheVariants.{Untold}
 use Rattle.tags.specs.declared.token.Port.TheVariants.{Left, Right}
 use Rattle.semantics.specs.declared.program.Mark.TheVariants.{Unmarked}
 use Rattle.semantics.specs.declared.program.Op.{Op}
-use Rattle.semantics.specs.Graph.{Block, node_count}
+use Rattle.semantics.specs.Graph.{node_count}
 use Rattle.schemas.specs.Scopes.{Scope}
-use Rattle.schemas.specs.Triggers.{triggers_of}
 use Rattle.schemas.specs.UseCounts.{uses_of}
-use Rattle.schemas.specs.Builds.{Build, quieted, connected, behind, first_of}
+use Rattle.schemas.specs.Builds.{Build, quieted, behind, first_of}
 use Rattle.schemas.specs.Ends.{Closing, join_ends, released, signalled, ends_of, closed_nodes}
 use Rattle.schemas.specs.Tails.{returns}
 use Rattle.schemas.specs.Blocks.{body, finished, plain_build}
 use Rattle.code_map.specs.declared.part.Part.{Part}
-use Rattle.code_map.specs.Parts.{body_parts, output_parts, closing_of, finished_parts, join_parts, plain_parts}
+use Rattle.code_map.specs.Parts.{body_parts, output_parts, closing_of, plain_parts}
 use Rattle.code_map.specs.Counts.{laid_body, laid_outputs}
 use Rattle.code_map.specs.Ends as Ends
 use Rattle.code_map.specs.Joins as Joins
 use Rattle.code_map.specs.Found.{parts_of}
 use Rattle.code_map.specs.Laws.{PlainHasOwners, PlainIsFound}
-use Rattle.code_map.proofs.Lengths.{Tracks, tracks_body, grows_added}
+use Rattle.code_map.proofs.Lengths.{Tracks, tracks_body}
 use Rattle.code_map.proofs.Tails.{tracks_outputs}
 use Rattle.code_map.proofs.Inside.{in_body, in_returns}
 use Rattle.code_map.proofs.Closing.{regions, Later, later_none, later_then, later_added, later_connected, later_signalled, joins_all, Matches, matches_nodes, matches_finished, finished_long}

@@ -1,6 +1,5 @@
 -- The tail of a block: as many returns as outputs, or the turn of an iteration.
 use Rattle.std.proofs.Common.{◌≤◌, ◌≡◌, ℕ, zero, suc, ◌+◌, ◌-◌, true, false, List, [], ◌∷◌, ◌++◌, length, replicate, refl, sym, ap, subst, ◌∙◌, arith}
-use Rattle.std.specs.Prelude.{if◌then◌else◌}
 use Rattle.std.proofs.lemmas.List.{append_assoc, append-nil, length-append, length-replicate, replicate-append-replicate}
 use Rattle.semantics.specs.declared.graph.Region.{Region}
 use Rattle.semantics.specs.declared.graph.Region.TheVariants.{Root, Arm}
@@ -9,7 +8,7 @@ use Rattle.semantics.specs.declared.program.Mark.TheVariants.{Unmarked, OfFlag}
 use Rattle.semantics.specs.declared.program.Op.{Op}
 use Rattle.schemas.specs.declared.tail.Turn.{Turn}
 use Rattle.schemas.specs.Builds.{Build, outlet, first_of, second_of, outlet_of, behind, meeting}
-use Rattle.schemas.specs.Tails.{returns, switches, next_values, last_values, turned_continuation, turned_flag, turning, turn_of, sent, framed, asked, go_on, stop, turned, iterate}
+use Rattle.schemas.specs.Tails.{returns, switches, next_values, last_values, turned_continuation, turned_flag, turning, turn_of, go_on, stop, turned, iterate}
 use Rattle.code_map.specs.declared.part.Part.{Part}
 use Rattle.schemas.specs.Blocks.{body}
 use Rattle.code_map.specs.Laws.{TailsHaveOwners}

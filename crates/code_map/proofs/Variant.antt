@@ -1,31 +1,26 @@
 -- The parts of a loop variant are found from the block and from its finished code.
 use Rattle.std.proofs.lemmas.List.{length-append}
-use Rattle.std.proofs.Common.{◌≡◌, ℕ, ◌+◌, ◌-◌, ◌≤◌, true, List, [], ◌++◌, length, replicate, refl, sym, ap, subst, ◌∙◌, arith, Option, None}
+use Rattle.std.proofs.Common.{◌≡◌, ℕ, ◌-◌, true, List, length, replicate, refl, sym, ap, subst, ◌∙◌, arith}
 use Rattle.semantics.specs.declared.graph.Region.{Region}
 use Rattle.semantics.specs.declared.graph.Region.TheVariants.{Root}
-use Rattle.tags.specs.declared.value.Origin.TheVariants.{Untold}
-use Rattle.tags.specs.declared.token.Port.TheVariants.{Left, Right}
-use Rattle.semantics.specs.declared.program.Mark.TheVariants.{Unmarked}
-use Rattle.semantics.specs.declared.program.Op.{Op}
-use Rattle.semantics.specs.Graph.{Block, node_count}
+use Rattle.semantics.specs.Graph.{node_count}
 use Rattle.schemas.specs.Scopes.{Scope}
-use Rattle.schemas.specs.Triggers.{triggers_of}
 use Rattle.schemas.specs.UseCounts.{uses_of}
-use Rattle.schemas.specs.Builds.{Build, quieted, connected, behind, first_of}
-use Rattle.schemas.specs.Ends.{Closing, join_ends, released, signalled, ends_of, closed_nodes}
+use Rattle.schemas.specs.Builds.{Build}
+use Rattle.schemas.specs.Ends.{ends_of, closed_nodes}
 use Rattle.schemas.specs.Tails.{iterate}
 use Rattle.schemas.specs.Blocks.{body, finished, variant_build}
 use Rattle.code_map.specs.declared.part.Part.{Part}
-use Rattle.code_map.specs.Parts.{body_parts, filled, closing_of, flag_closed, turn_closing, variant_parts}
+use Rattle.code_map.specs.Parts.{body_parts, filled, closing_of, turn_closing, variant_parts}
 use Rattle.code_map.specs.Counts.{laid_body, laid_turn}
 use Rattle.code_map.specs.Ends as Ends
 use Rattle.code_map.specs.Joins as Joins
 use Rattle.code_map.specs.Found.{parts_of}
 use Rattle.code_map.specs.Laws.{VariantHasOwners, VariantIsFound}
-use Rattle.code_map.proofs.Lengths.{Tracks, tracks_body, grows_added}
+use Rattle.code_map.proofs.Lengths.{Tracks, tracks_body}
 use Rattle.code_map.proofs.Tails.{tracks_iterate, filled_twice}
 use Rattle.code_map.proofs.Inside.{in_body, in_iterate}
-use Rattle.code_map.proofs.Closing.{regions, Later, later_none, later_then, later_added, later_connected, later_signalled, joins_all, Matches, matches_closed, matches_nodes, matches_finished, finished_long}
+use Rattle.code_map.proofs.Closing.{regions, Later, later_none, Matches, matches_closed, matches_nodes, matches_finished, finished_long}
 use Rattle.code_map.proofs.Plain.{later_released}
 use Rattle.code_map.proofs.Seen.{ends_seen}
 

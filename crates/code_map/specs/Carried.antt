@@ -1,6 +1,6 @@
 -- What each instruction of an object belongs to: the passes move instructions, leave out literals, and add copies, each of which belongs
 -- to what the instruction belongs to whose destinations it leads to. Slots and the selection of code move nothing.
-use Rattle.std.specs.Prelude.{ℕ, ◌+◌, false, List, [], ◌∷◌, ◌++◌, length, replicate, slice_get, slice_index_or, Option}
+use Rattle.std.specs.Prelude.{ℕ, false, List, [], ◌∷◌, ◌++◌, replicate, slice_get, slice_index_or, Option}
 use Rattle.semantics.specs.Graph.{Flow}
 use Rattle.semantics.specs.Program.{Instr, CodeBlock}
 use Rattle.semantics.specs.Plan.{Plan}

@@ -1,5 +1,5 @@
 -- The owners of small graphs' objects.
-use Rattle.std.specs.Prelude.{◌≡◌, ℕ, ◌++◌, ℤ, pos, true, false, List, [], ◌∷◌, map}
+use Rattle.std.specs.Prelude.{◌≡◌, ℕ, pos, true, false, List, [], ◌∷◌}
 use Rattle.operators.specs.declared.Binary.TheVariants.{Add}
 use Rattle.semantics.specs.declared.graph.Region.{Region}
 use Rattle.semantics.specs.declared.graph.Region.TheVariants.{Root, Arm}

@@ -1,9 +1,9 @@
 -- The joins of the ends of a block, by the regions of the ends.
-use Rattle.std.specs.Prelude.{ℕ, ◌+◌, ◌-◌, Bool, true, false, List, [], ◌∷◌, ◌++◌, length, replicate, count_by, nat_lt, if◌then◌else◌}
+use Rattle.std.specs.Prelude.{ℕ, ◌+◌, ◌-◌, Bool, true, false, List, [], ◌∷◌, ◌++◌, replicate, nat_lt, if◌then◌else◌}
 use Rattle.semantics.specs.declared.graph.Region.{Region}
 use Rattle.semantics.specs.declared.graph.Region.TheVariants.{Root, Arm}
 use Rattle.semantics.specs.declared.graph.Kind.{Kind}
-use Rattle.semantics.specs.Graph.{Node, Block}
+use Rattle.semantics.specs.Graph.{Node}
 use Rattle.schemas.specs.Ends.{same_region}
 use Rattle.code_map.specs.declared.part.Part.{Part}
 

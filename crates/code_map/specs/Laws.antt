@@ -1,6 +1,6 @@
 -- What is claimed of the owners of instructions.
-use Rattle.std.specs.Prelude.{replicate, ◌≡◌, ℕ, ◌+◌, ◌-◌, ◌<◌, ◌≤◌, true, false, List, [], ◌∷◌, length, map, take, sum, Some, slice_get, Bool}
-use Rattle.semantics.specs.Graph.{Node, Block, Flow, node_count}
+use Rattle.std.specs.Prelude.{replicate, ◌≡◌, ℕ, ◌+◌, ◌<◌, ◌≤◌, true, false, List, [], length, map, take, sum, Some, slice_get, Bool}
+use Rattle.semantics.specs.Graph.{Block, Flow, node_count}
 use Rattle.semantics.specs.Program.{Instr, CodeBlock, Program}
 use Rattle.semantics.specs.Sharing.{Good}
 use Rattle.semantics.specs.declared.version.Version.{Version}

@@ -1,5 +1,5 @@
 -- Places of instructions that go through the passes in the place of marks, and what is read off them.
-use Rattle.std.specs.Prelude.{ℕ, zero, suc, ◌+◌, ◌-◌, List, [], ◌∷◌, ◌++◌, map, length, replicate, slice_get, slice_index_or, Option, Some, None, false}
+use Rattle.std.specs.Prelude.{ℕ, zero, suc, ◌+◌, ◌-◌, List, [], ◌∷◌, ◌++◌, map, length, replicate, slice_get, slice_index_or, Option, Some, None}
 use Rattle.semantics.specs.declared.program.Mark.{Mark}
 use Rattle.semantics.specs.declared.program.Mark.TheVariants.{Unmarked, OfCond, OfFlag}
 use Rattle.semantics.specs.declared.program.Op.{Op}

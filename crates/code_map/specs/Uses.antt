@@ -1,5 +1,5 @@
 -- The counts of uses that the map's own table has, as the schemas count.
-use Rattle.std.specs.Prelude.{ℕ, List, map}
+use Rattle.std.specs.Prelude.{List, map}
 use Rattle.schemas.specs.declared.uses.Uses as Declared
 use Rattle.code_map.specs.declared.uses.Use.{Use}
 use Rattle.code_map.specs.declared.uses.Use.TheVariants.{Never, Once, Often}

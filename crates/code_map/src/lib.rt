@@ -40,7 +40,6 @@ use std::alloc::{AllocError, Allocator};
 
 /// The owner of each instruction of a graph's object, as instructions are numbered through all code blocks. It fails only where
 /// a growth is refused, or where a block of code had 2^32 instructions.
-#[tactic(auto, using(crate::proofs::Passes::map_owned))]
 pub fn code_map<'a, A: Allocator + Clone>(
     alloc: A,
     checked: &Checked<'a, A>,

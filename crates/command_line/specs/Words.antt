@@ -410,4 +410,4 @@ asked (word ∷ rest) =
 
 -- what `--version` prints: the version, and the kit that the program is made with
 abbrev pub version_line : Text
-version_line = codes "ets 0.3.5 (rattle-kit-13f)" ++ 10 ∷ []
+version_line = codes "ets 0.3.6 (rattle-kit-13f)" ++ 10 ∷ []

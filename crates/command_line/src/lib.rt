@@ -348,5 +348,5 @@ pub fn read_words<S: AsStr>(words: &[S]) -> Asked
 pub fn version_line() -> &'static [u8]
     ensures { result.now ≡ version_line }
 {
-    b"ets 0.3.5 (rattle-kit-13f)\n"
+    b"ets 0.3.6 (rattle-kit-13f)\n"
 }

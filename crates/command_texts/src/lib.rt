@@ -14,7 +14,7 @@ use std::alloc::{AllocError, Global};
 use std::convert::AsStr;
 
 /// The version of the program and the kit that it is made with, as in `command_line::version_line`.
-const VERSION: &str = "0.3.5 (rattle-kit-13f)";
+const VERSION: &str = "0.3.6 (rattle-kit-13f)";
 
 /// The formats in which a trace may be written.
 const FORMATS: [&str; 4] = ["text", "chrome", "html", "json"];

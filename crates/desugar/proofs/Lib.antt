@@ -24,3 +24,14 @@ pub mod RenamedFlags
 pub mod Compared
 pub mod ComparedFlags
 pub mod Numbers
+pub mod Placed
+pub mod PlacedNumbers
+pub mod HiddenTable
+pub mod TextTables
+pub mod HiddenSpelled
+pub mod CoreMade
+pub mod TextNames
+pub mod DeepSteps
+pub mod Stacks
+pub mod Gaps
+pub mod Backward

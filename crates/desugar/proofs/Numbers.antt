@@ -38,21 +38,21 @@ use Rattle.desugar.proofs.ComparedFlags.{IsStarted, AreStarted, flagged_same}
 use Rattle.desugar.proofs.Items.{steps_desugar}
 
 -- NAMES
-within : (names : List Name) (prefix : Name) (n : ℕ) → n < length names → name_with names prefix n ≡ name_of names n
+pub within : (names : List Name) (prefix : Name) (n : ℕ) → n < length names → name_with names prefix n ≡ name_of names n
 within names prefix n h = rw (lt-ltb n (length names) h) refl
 
-beyond : (names : List Name) (prefix : Name) (n : ℕ) → length names ≤ n → name_with names prefix n ≡ hidden prefix (n - length names)
+pub beyond : (names : List Name) (prefix : Name) (n : ℕ) → length names ≤ n → name_with names prefix n ≡ hidden prefix (n - length names)
 beyond names prefix n h = rw (le-ltb n (length names) h) refl
 
-begins_itself : (p r : List ℕ) → begins p (p ++ r) ≡ true
+pub begins_itself : (p r : List ℕ) → begins p (p ++ r) ≡ true
 begins_itself [] r = refl
 begins_itself (c ∷ p) r = rw (equal_itself c) (begins_itself p r)
 
-or_false : (a b : Bool) → (a || b) ≡ false → (a ≡ false) × (b ≡ false)
+pub or_false : (a b : Bool) → (a || b) ≡ false → (a ≡ false) × (b ≡ false)
 or_false true b h = absurd (cc)
 or_false false b h = (refl, h)
 
-none_begins : (prefix : Name) (names : List Name) (n : ℕ) → n < length names → list_any (begins prefix) names ≡ false → begins prefix (name_of names n) ≡ false
+pub none_begins : (prefix : Name) (names : List Name) (n : ℕ) → n < length names → list_any (begins prefix) names ≡ false → begins prefix (name_of names n) ≡ false
 none_begins prefix [] n l h = absurd (omega (arith, l))
 none_begins prefix (x ∷ names) zero l h = (or_false (begins prefix x) (list_any (begins prefix) names) h).0
 none_begins prefix (x ∷ names) (suc n) l h =
@@ -92,7 +92,7 @@ agree names prefix d free x y l = go (x == y) refl (same_name (name_with names p
         absurd (eqb-false x y e (its_number names prefix d free x y l (same_name_is (name_with names prefix x) (name_with names prefix y) h)))
 
 -- WORDS with their names
-core_is : (names : List Name) (nm : ℕ → Name) → ((n : ℕ) → n < length names → name_of names n ≡ nm n) → (w : CoreWord ℕ)
+pub core_is : (names : List Name) (nm : ℕ → Name) → ((n : ℕ) → n < length names → name_of names n ≡ nm n) → (w : CoreWord ℕ)
     → All (λ n. n < length names) (core_words.numbers_of w) → core_words.named names w ≡ core_renamed nm w
 core_is names nm k (core.Array at x) a = ap (λ n. core.Array at n) (k x (All-head (λ n. n < length names) x [] a))
 core_is names nm k (core.Length at n) a = refl

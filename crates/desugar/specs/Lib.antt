@@ -5,3 +5,11 @@ pub mod StepsDesugar
 pub mod Flags
 pub mod Renamed
 pub mod NumbersDesugar
+pub mod Placing
+pub mod PlacedWords
+pub mod Tables
+pub mod CoreMade
+pub mod DeepSteps
+pub mod Code
+pub mod Open
+pub mod Passed

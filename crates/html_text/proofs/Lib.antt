@@ -1,2 +1,4 @@
 pub mod Bytes
+pub mod Escapes
+pub mod Panes
 pub mod PlainTexts

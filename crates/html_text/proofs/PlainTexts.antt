@@ -220,13 +220,13 @@ strings = (
 )
 
 -- and all of it, with the quotation marks
-inerts : (first : Passing inert) (pieces : List (Passing inert)) → Inert (joined inert first.0 pieces)
+pub inerts : (first : Passing inert) (pieces : List (Passing inert)) → Inert (joined inert first.0 pieces)
 inerts = join_all inert
 
 of : (xs : List ℕ) → Quotable xs → Inert xs
 of xs q = lift quotable inert quotable_inert xs q
 
-number_inert : (tag : List ℕ) (n : ℕ) → Inert tag → Inert (number_text tag n)
+pub number_inert : (tag : List ℕ) (n : ℕ) → Inert tag → Inert (number_text tag n)
 number_inert tag n t = inerts (tag, t) ((decimal n, of (decimal n) (of_part (decimal n) (of_word (decimal n) (number n)))) ∷ [])
 
 lead_inert : (n : ℕ) → Inert (line_lead n)

@@ -1,3 +1,5 @@
 pub mod DataText
+pub mod Escape
 pub mod PageText
+pub mod PaneText
 pub mod Plain

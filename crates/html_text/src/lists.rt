@@ -20,14 +20,15 @@ function info(n) {
       el('div', {}, k === LATER ? 'It is never taken.' : ['Taken by ', evButton(k, 'event ' + no(k)), ' ', el('span', {class: 'none'}, doing(k))]));
     return;
   }
-  const c = CODE[picked.ip], list = picked.of.list = picked.of.list || eventsOf(picked.of.has);
+  const c = CODE[picked.ip], spot = c && text && text.of[c.ip], list = picked.of.list = picked.of.list || eventsOf(picked.of.has);
   let a = 0, b = list.length;
   while (a < b) { const q = (a + b) >> 1; if (list[q] < n) a = q + 1; else b = q; }
   const from = Math.max(0, a - 30), to = Math.min(list.length, from + 60);
   fill(box, close, el('h2', {}, c ? c.b + '.' + c.k + ' ' + c.name + ' ' + c.op : picked.of.name),
     c ? [HELP[c.name] ? el('div', {class: 'none'}, HELP[c.name]) : '',
     el('div', {}, 'goes to: ', c.d.filter(d => d).map(d => name(d.ip) + ' (' + at(d.ip) + '), ' + SIDE[d.port]).join('; ') ||
-        'no instruction of its block', c.slot === null ? '' : '; slot ' + c.slot)] : '',
+        'no instruction of its block', c.slot === null ? '' : '; slot ' + c.slot),
+    spot ? el('div', {}, 'made for ', el('button', {class: 'ev', on: () => showFound(ofSpot(spot), spot)}, spot.name)) : ''] : picked.spot ? spotInfo(picked.spot, n) : '',
     el('div', {style: 'margin-top:.3rem'}, many(list.length, 'event'), list.length ? ': ' : '.', from ? '\u2026 ' : '',
         list.slice(from, to).map(x => evButton(x, no(x) + ' \u00b7 ' + (c ? 'frame ' + TO[TAKES[x]] : verb(x)))), to < list.length ? ' \u2026' : ''));
 }
@@ -45,11 +46,12 @@ const ofFrame = f => ({name: 'frame ' + f, has: n => {
 }});
 function something(w) {  // what these words name
   const m = /^(.*?)(?:\[| |\.)(\d+)\]?$/.exec(w), k = m && +m[2], array = m && ARRAYS.find(a => a.name === m[1] || a.name === 'array ' + m[1]);
-  const block = BLOCKS.find(b => b.name === w);
+  const block = BLOCKS.find(b => b.name === w || b.was === w);
   if (block) return ofFunction(block.n);
   if (/\]$/.test(w)) return array && k < array.len ? ofCell(array.base + k) : null;
   if (m && m[1] === 'frame') return k < D.frames ? ofFrame(k) : null;
   if (m && m[1] === 'block') return BLOCKS[k] ? ofFunction(k) : null;
+  if (m && m[1] === 'line' && text) return k && k <= text.lines.length ? ofLine(k) : null;
   if (m && m[1] === 'cell') return k < CELLS ? ofCell(k) : null;
   if (m && m[1] === 'output') return {name: w, has: n => TYPE[TAKES[n]] === HOST && TO[TAKES[n]] === k};
   if (/^\d+\.\d+$/.test(w)) return BLOCKS[m[1]] && BLOCKS[m[1]].code[k] ? ofInstruction(BLOCKS[m[1]].first + k) : null;
@@ -72,6 +74,7 @@ function same(n) {  // of what the next and the last event are wanted
   if (what === 'found') return found;
   if (what === 'frame') return ofFrame($('fsel').value === 'f' ? follow : frameOf(n));
   if (what === 'cell') return lastCell < 0 ? {name: 'any cell', has: isAtCell} : ofCell(lastCell);
+  if (what === 'spot') return text && text.of[lastIp] ? ofSpot(text.of[lastIp]) : null;
   return !CODE[lastIp] ? null : what === 'function' ? ofFunction(CODE[lastIp].b) : ofInstruction(lastIp);
 }
 const tell = text => { $('told').textContent = text; };
@@ -84,11 +87,13 @@ function sameStep(by) {
 function find() {
   const w = $('find').value.trim(), of = w && something(w);
   if (!w) { tell(''); return; }
-  if (!of) { tell('Nothing here is called \u201c' + w + '\u201d.'); return; }
+  if (of) showFound(of); else tell('Nothing here is called \u201c' + w + '\u201d.');
+}
+function showFound(of, spot) {  // its next event, or else the first
   found = of; $('same').value = 'found'; pause();
   let n = seek(of, pos + 1, 1);
   if (n < 0) n = seek(of, 0, 1);
-  if (of.has) picked = {of: of};
+  if (of.has) picked = {of: of, spot: spot};
   if (n >= 0) go(n); else show();
   tell(n < 0 ? 'No event of ' + of.name + '.' : of.name + (of.has ? ': ' + many(of.list.length, 'event') : ''));
 }
@@ -337,7 +342,7 @@ function show() {
       'event ' + no(n) + ' (' + D.first + ' to ' + no(N - 1) + ')';
   $('first').disabled = $('back').disabled = n < 0; $('next').disabled = $('last').disabled = n >= N - 1;
   const focus = marks(n, s, pool, f);
-  lists(n, s, pool, f); info(n); timeline(n); setHash();
+  beside(n, s); lists(n, s, pool, f); info(n); timeline(n); setHash();
   if (refocus) refocus();
   reveal(focus, ipOf(n));
 }
@@ -381,6 +386,7 @@ addEventListener('keydown', ev => {
   if (k === 'ArrowLeft') step(-1); else if (k === 'ArrowRight') step(1); else if (k === 'Home') { pause(); go(-1); }
       else if (k === 'End') { pause(); go(N - 1); }
   else if (k === 'n') sameStep(1); else if (k === 'p') sameStep(-1); else if (k === '/') $('find').focus(); else if (k === 'g') $('goto').focus();
+  else if (k === 't' && TEXTS.length) setText(text ? TEXTS.indexOf(text) + 1 : 0);
   else if (k === 'Escape') choose(null); else if (k === ' ' && !btn) play(); else return;
   ev.preventDefault();
 });

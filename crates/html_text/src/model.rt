@@ -317,7 +317,7 @@ function sentence(n) {
   switch (t[0]) {
     case 'i': {
       const i = CODE[t[2]], two = i && i.two;
-      out.push(', frame ' + f + ': ', b(name(t[2]) + ' (' + at(t[2]) + ')'), ' takes ', b(word(t[4])), two || t[3] === 'r' ?
+      out.push(', frame ' + f + ': ', b(name(t[2]) + ' (' + at(t[2]) + ')'), inLine(t[2]), ' takes ', b(word(t[4])), two || t[3] === 'r' ?
           ' on its ' + SIDE[t[3]] + ' port' : '');
       if (i && /^[rl]#/.test(i.op)) out.push(', and has ' + i.op.slice(2) + ' as its ' + SIDE[i.op[0]] + ' operand');
       if (c && c[0] === 's') {

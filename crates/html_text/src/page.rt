@@ -4,6 +4,7 @@ ghost use Rattle.std.specs.Prelude.{◌≡◌, ◌++◌};
 ghost use Rattle.html_text.specs.PageText.{part_text, large_mark};
 ghost use Rattle.sink.specs.Sends.{Sends};
 
+use crate::beside::BESIDE;
 use crate::lists::LISTS;
 use crate::model::MODEL;
 use crate::picture::PICTURE;
@@ -29,10 +30,11 @@ pub enum Part {
 
 /// The script.
 fn send_script<W: Write>(writer: &mut W) -> io::Result<()>
-    ensures { Sends result (W.contents writer.old) (W.contents writer.new) (MODEL.now ++ PICTURE.now ++ LISTS.now) }
+    ensures { Sends result (W.contents writer.old) (W.contents writer.new) (MODEL.now ++ PICTURE.now ++ BESIDE.now ++ LISTS.now) }
 {
     send(writer, MODEL)?;
     send(writer, PICTURE)?;
+    send(writer, BESIDE)?;
     send(writer, LISTS)
 }
 

@@ -275,7 +275,7 @@ function marks(n, s, pool, f) {
 }
 function reveal(focus, src) {  // asks for the page's layout, so comes last
   const P = place.get(focus), g = $('graph'), R = rowOf.get(src), fb = $('frames'), mine = fb.querySelector('.cur');
-  const to = [];
+  const to = revealLine(pos);
   if (P && svg) {
     const k = svg.clientWidth / size.w || 1, x = P.x * k, y = P.y * k;
     if (y < g.scrollTop + 50 || y > g.scrollTop + g.clientHeight - 90) to.push([g, 'scrollTop', y - g.clientHeight / 2]);

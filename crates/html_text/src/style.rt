@@ -55,13 +55,42 @@ input:not([type]){font:inherit;border:1px solid var(--line);border-radius:6px;ba
 .legend{display:flex;flex-wrap:wrap;gap:.1rem .9rem;font-size:.78rem;color:var(--dim);margin-top:.3rem}
 .legend i{display:inline-block;width:.75em;height:.75em;border-radius:2px;margin-right:.35em}
 #cols{display:grid;grid-template-columns:minmax(0,1.45fr) minmax(0,1fr);gap:.6rem;align-items:start}
+#cols.three{grid-template-columns:minmax(0,1fr) minmax(0,1.2fr) minmax(0,.8fr)}
+#text{
+  position:relative;overflow:auto;max-height:max(22rem,calc(100vh - 21rem));background:var(--soft);border-radius:6px;padding:.2rem 0;
+  font-size:.82rem;line-height:1.5;tab-size:4;
+}
+.ln{display:flex;border-left:3px solid transparent}
+.ln.cur{border-color:var(--waited);background:var(--card)}
+.ln code{font-size:inherit;white-space:pre-wrap;overflow-wrap:anywhere;padding:0 .4rem 0 3ch;text-indent:-2ch;min-width:0}
+.no{flex:none;width:2.2em;text-align:right;color:var(--faint);user-select:none}
+.lw{flex:none;width:2.1em;text-align:center;font-weight:600;user-select:none}
+.lw:not(:empty){background:var(--waitbg);color:var(--waitink);border-radius:0 8px 8px 0}
+.spot{cursor:pointer;border-radius:3px}
+.program .spot{text-decoration:underline dotted var(--faint);text-underline-offset:3px}
+.spot:hover{outline:1px solid var(--accent)}
+.in{background:var(--soft);background:color-mix(in srgb,var(--act) 45%,transparent)}
+.spot.wait{background:var(--waitbg);color:var(--waitink)}
+.spot.act{background:var(--act);color:var(--actink);outline:2px solid var(--waited)}
+.spot.from{outline:2px dashed var(--waited)}
+@media (min-width:861px) and (max-height:820px) {
+  main.text:not([hidden]){display:flex;flex-direction:column}
+  main.text #tl{order:1}
+}
+@media (min-width:861px) and (max-width:1099px) {
+  #cols.three{grid-template-columns:minmax(0,1.45fr) minmax(0,1fr)}
+  #cols>#beside{grid-column:1/-1}
+  #text{max-height:12rem}
+}
 @media (max-width:860px) {
   main:not([hidden]){display:flex;flex-direction:column}
   #cols{display:contents}
   #cols>section{order:1}
-  #more{order:2}
-  #tl{order:3}
-  #cols>div{order:4}
+  #cols>#beside{order:2}
+  #more{order:3}
+  #tl{order:4}
+  #cols>div{order:5}
+  #text{max-height:15rem}
   #bar{padding:.3rem 0 .25rem}
   #say{min-height:4.3em;max-height:7.2em;overflow:auto;font-size:.94rem}
   #at{min-width:0;font-size:.86rem}
@@ -146,7 +175,7 @@ kbd{border:1px solid var(--line);border-radius:3px;padding:0 .25em;font-size:.8e
   :root{color-scheme:light;--bg:#fff;--card:#fff;--ink:#000;--dim:#333;--line:#999}
   #ctl button,#more,.row select,.row label,.row button,.legend,#plain,#keys,#info{display:none!important}
   #bar{position:static}
-  #graph,.scroll{max-height:none;overflow:visible;background:none}
+  #graph,#text,.scroll{max-height:none;overflow:visible;background:none}
   #graph svg{width:100%;height:150mm}
   .card{break-inside:avoid;border-color:#bbb}
   body{font-size:11pt}
@@ -184,6 +213,7 @@ kbd{border:1px solid var(--line);border-radius:3px;padding:0 .25em;font-size:.8e
 <option value="1" selected>1 a second<option value="3">3 a second
 <option value="10">10 a second<option value="50">50 a second<option value="500">500 a second
 <option value="5000">5,000 a second</select></label>
+<label id="tlabel" hidden>Text <select id="tsel" aria-label="Text beside the code (t)"></select></label>
 <a id="link" href="#event=start">link to this moment</a>
 <span id="told" role="status"></span>
 </div>
@@ -194,6 +224,13 @@ kbd{border:1px solid var(--line);border-radius:3px;padding:0 .25em;font-size:.8e
 <div class="legend" id="legend"></div>
 </section>
 <div id="cols">
+<section class="card" id="beside" hidden aria-label="Text beside the code">
+<div class="row"><h2 id="tname">Program</h2><span class="none" id="tmark"></span></div>
+<div id="text" tabindex="0" role="region" aria-label="Text, with the places for which instructions were made"></div>
+<div class="legend"><span><i style="background:var(--act);outline:1.5px solid var(--waited)"></i>acts now</span>
+<span><i style="outline:1.5px dashed var(--waited)"></i>made what is taken</span>
+<span><i style="background:var(--waitbg)"></i>words wait, so many in the line</span></div>
+</section>
 <section class="card" aria-label="Code as a graph">
 <div class="row"><h2>Code</h2>
 <label>frame <select id="fsel"></select></label>
@@ -218,7 +255,7 @@ kbd{border:1px solid var(--line);border-radius:3px;padding:0 .25em;font-size:.8e
 <section class="card"><h2>Requests that wait</h2><div id="reqs"></div></section>
 <section class="card"><h2>Tokens on their way <span class="none" id="tcount"></span></h2><ul id="toks" class="list scroll"></ul></section>
 <p class="none" id="keys">Keys: <kbd>&#8592;</kbd> <kbd>&#8594;</kbd> one event, <kbd>space</kbd> play, <kbd>Home</kbd> <kbd>End</kbd>;
-<kbd>n</kbd> <kbd>p</kbd> next and last event of the same, <kbd>/</kbd> find, <kbd>g</kbd> go to.
+<kbd>n</kbd> <kbd>p</kbd> next and last event of the same, <kbd>/</kbd> find, <kbd>g</kbd> go to<span id="tkey" hidden>, <kbd>t</kbd> another text, or none</span>.
 Click a token for the event that made it, an instruction or a cell for its events,
 the timeline to jump. What is found of a value are the events that make it or leave it in a slot, a cell or an output.</p>
 </div>

@@ -49,7 +49,7 @@ fn send_token<W: Write>(writer: &mut W, token: &Token) -> io::Result<()>
 }
 
 /// What is before a token of a list.
-fn semicolon(place: usize) -> &'static [u8]
+pub(crate) fn semicolon(place: usize) -> &'static [u8]
     ensures { result.now ≡ semicolon place }
 {
     match place {

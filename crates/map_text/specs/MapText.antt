@@ -1,5 +1,5 @@
 -- THE MAP OF CODE AS TEXT: for each instruction of an object a line with its owner, the part of the graph for which it was made.
-use Rattle.std.specs.Prelude.{ℕ, ◌+◌, ◌-◌, Bool, true, false, Option, Some, None, List, [], ◌∷◌, ◌++◌, length, take, drop, map}
+use Rattle.std.specs.Prelude.{ℕ, ◌-◌, Bool, true, false, Option, Some, None, List, [], ◌∷◌, ◌++◌, length, take, drop}
 use Rattle.std.specs.Prelude.{slice_get, nat_lt, option_map, decimal, codes, if◌then◌else◌}
 use Rattle.semantics.specs.Program.{CodeBlock, Program, first_of}
 use Rattle.source.specs.Tokens.{Position, position}

@@ -1,6 +1,6 @@
 //! The lines of all instructions.
 
-ghost use Rattle.std.specs.Prelude.{◌≡◌, take, drop, option_map};
+ghost use Rattle.std.specs.Prelude.{◌≡◌, take, drop};
 ghost use Rattle.semantics.specs.Graph.{block_names};
 ghost use Rattle.sink.specs.Sends.{Sends};
 ghost use Rattle.source_tokens.specs.Placing.{IsReached};
@@ -18,6 +18,7 @@ use std::io::{self, Write};
 use std::marker::Model;
 
 /// What the lines name.
+#[derive(Drop)]
 struct Names<'g, 'a, 'p, 'q, A: Allocator> {
     blocks: &'g [Block<'a, A>],
     program: &'p [u8],
@@ -113,10 +114,10 @@ pub fn write_code_map<'a, A: Allocator, W: Write>(
     object: &Object<'_>,
     graph: &Graph<'a, A>,
     owners: &[Owner],
-    program: Option<&ProgramPlaces<'_, '_, A>>,
+    program: Option<ProgramPlaces<'_, '_, A>>,
 ) -> io::Result<()>
     ensures { Sends result (W.contents writer.old) (W.contents writer.new)
-        (MapText.code_map_text object.now.code.program (block_names graph.now) (option_map (λ p. p.now) program) owners.now) }
+        (MapText.code_map_text object.now.code.program (block_names graph.now) program.entry owners.now) }
 {
     let names = match program {
         Some(program) => Names {

@@ -1,5 +1,8 @@
-//! The map of a file's code: for each instruction the node of the graph for which it was made, and for a program the place in it, too.
+//! The map of a file's code: for each instruction the node of the graph for which it was made, and for a program the place in it, too; as
+//! text, and in the page of a run.
 #![tactic(auto)]
+
+mod page;
 
 ghost use Rattle.std.specs.Prelude.{◌≡◌, List, MatchResult, ℕ};
 ghost use Rattle.semantics.specs.Graph.{flow_of};
@@ -21,10 +24,11 @@ use files::{Content, content_of};
 use graph::Graph;
 use graph_check::Checked;
 use lowered_text::programs::{Made, Parts, make, read_good};
-use lowering::Named;
+use lowering::{Named, Places};
 use map_text::{ProgramPlaces, write_code_map};
 use object_view::OwnedObject;
 use outcomes::{Outcome, Refusal};
+pub use page::print_file_page;
 use programs::compiling::check_good;
 use std::alloc::Allocator;
 use std::io::{self, Write};
@@ -104,11 +108,19 @@ fn print_graph_map<A: Allocator + Clone, W: Write>(
 ) -> io::Result<Outcome>
     ensures { PrintsGraphMap result (W.contents writer.old) (W.contents writer.new) text.now }
 {
+    let Ok(room) = alloc.clone() else {
+        return refuse(writer, &Refusal::Memory);
+    };
     let mapped = match map_text(alloc, text) {
         Ok(mapped) => mapped,
         Err(fault) => return refuse(writer, &fault_refusal(fault)),
     };
-    match send_map(writer, &mapped, None) {
+    let places: Vec<Places<A>, A> = Vec::new(room);
+    let nowhere = ProgramPlaces {
+        program: b"",
+        places: &places,
+    };
+    match send_map(writer, &mapped, Some(nowhere)) {
         Ok(()) => Ok(Outcome::Done),
         Err(fault) => Err(fault),
     }

@@ -31,7 +31,7 @@ module _ (P Q : Printing) (go : (s : Result Outcome Error) (o a : Option (List �
   mapped_too true bytes served old all p = p
 
 prints_file : {A : Type 0} (file : FileRequest) (bytes : List ℕ) (input : Result (Vec ℕ A) Refusal) → WasRead file bytes input
-    → (s : Result Outcome Error) (o a : Option (List ℕ)) → PrintsInput file.request input s o a → PrintsFile bytes file s o a
+    → (s : Result Outcome Error) (o a : Option (List ℕ)) → PrintsInput bytes file.request input s o a → PrintsFile bytes file s o a
 prints_file file bytes (Ok v) is s o a prints = inl (v.items, is, prints)
 prints_file file bytes (Err f) is s o a refuses = inr (f, is, refuses)
 
@@ -42,9 +42,9 @@ answers_read file words bytes input old held new holds outcome before after is (
     subst (λ o. AnswersRead words bytes file o holds outcome) before (subst (λ n. AnswersRead words bytes file old n outcome) after (
       all,
       served,
-      mapped_too (λ s o a. Shown file.options words (λ s o a. PrintsInput file.request input s o a) s o a)
+      mapped_too (λ s o a. Shown file.options words (λ s o a. PrintsInput bytes file.request input s o a) s o a)
           (λ s o a. Shown file.options words (λ s o a. PrintsFile bytes file s o a) s o a)
-          (chosen_too (λ s o a. PrintsInput file.request input s o a) (λ s o a. PrintsFile bytes file s o a) (prints_file file bytes input is)
+          (chosen_too (λ s o a. PrintsInput bytes file.request input s o a) (λ s o a. PrintsFile bytes file s o a) (prints_file file bytes input is)
           (file.options.cells || file.options.grid) words) file.options.map bytes served old all prints,
       flushes,
     ))

@@ -4,6 +4,7 @@ use Rattle.std.specs.Str.{bytes_eq}
 use Rattle.std.specs.declared.io.Error.{Error}
 use Rattle.command_line.specs.Files.{command_word, option_value}
 use Rattle.command_line.specs.declared.Command.{Command}
+use Rattle.command_line.specs.declared.Format.{Format}
 use Rattle.command_line.specs.declared.Request.{Request}
 use Rattle.command_line.specs.declared.given.FileOptions.{FileOptions}
 use Rattle.command_line.specs.declared.given.FileRequest.{FileRequest}
@@ -16,8 +17,9 @@ use Rattle.outcomes.specs.declared.outcome.Outcome.{Outcome}
 use Rattle.outcomes.specs.declared.refusal.Refusal.{Refusal}
 use Rattle.commands.specs.Answered.{Answers as Prints}
 use Rattle.commands.specs.Served.{Refuses}
-use Rattle.commands.specs.FileInputs.{AnswersFile, IsInputOf}
+use Rattle.commands.specs.FileInputs.{IsInputOf, IsNoInputOf}
 use Rattle.mapped.specs.Mapped.{PrintsCodeMap}
+use Rattle.mapped.specs.Paned.{PrintsFilePage}
 use Rattle.process.specs.declared.sending.HintSent.{HintSent}
 use Rattle.process.specs.HintSent.{Account, Speaks}
 use Rattle.process.specs.Process.{Ends, Flushes, exits}
@@ -60,20 +62,27 @@ abbrev pub Mapped : Bool → List ℕ → Printing → Printing
 Mapped false bytes P served old all = P served old all
 Mapped true bytes P served old all = PrintsCodeMap served old all bytes
 
--- What is printed of this input, or the refusal, and whether it was written out.
-abbrev pub PrintsInput : {A : Type 0} → Request → Result (Vec ℕ A) Refusal → Printing
-PrintsInput request input served old all = MatchResult input (λ v. Prints served old all v.items request) (Refuses served old all)
+-- WHAT IS PRINTED of an input that was read of a file with these bytes: what the command prints of it, but a page has the file's source, too
+abbrev pub PrintsOver : List ℕ → List ℕ → Request → Printing
+PrintsOver bytes input (Request.Trace o last Format.Html) served old all = PrintsFilePage served old all bytes input o last
+PrintsOver bytes input request served old all = Prints served old all input request
+
+-- of this input, or the refusal, and whether it was written out
+abbrev pub PrintsInput : {A : Type 0} → List ℕ → Request → Result (Vec ℕ A) Refusal → Printing
+PrintsInput bytes request input served old all = MatchResult input (λ v. PrintsOver bytes v.items request served old all) (Refuses served old all)
 
 abbrev pub AnswersInput : {A : Type 0} → FileOptions → List (List ℕ) → List ℕ → Request → Result (Vec ℕ A) Refusal → Option (List ℕ) → Option (List ℕ)
     → Option Outcome → Type 0
 AnswersInput options words bytes request input old new outcome =
     (all : Option (List ℕ)) × (served : Result Outcome Error)
-    × Mapped options.map bytes (λ s o a. Shown options words (λ s o a. PrintsInput request input s o a) s o a) served old all
+    × Mapped options.map bytes (λ s o a. Shown options words (λ s o a. PrintsInput bytes request input s o a) s o a) served old all
     × Flushes all new served outcome
 
 -- STANDARD OUTPUT held `old`, and holds `new`: what it held before, followed by what is printed of the file with these bytes.
 abbrev pub PrintsFile : List ℕ → FileRequest → Printing
-PrintsFile bytes file served old all = AnswersFile served old all bytes file.request file.inputs
+PrintsFile bytes file served old all =
+    ((input : List ℕ) × IsInputOf file.request file.inputs bytes input × PrintsOver bytes input file.request served old all)
+    ⊎ ((f : Refusal) × IsNoInputOf file.request bytes f × Refuses served old all f)
 
 abbrev pub AnswersRead : List (List ℕ) → List ℕ → FileRequest → Option (List ℕ) → Option (List ℕ) → Option Outcome → Type 0
 AnswersRead words bytes file old new outcome =

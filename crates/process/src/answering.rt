@@ -7,11 +7,11 @@ ghost use Rattle.process.specs.Process.{Answers};
 ghost use Rattle.process.specs.Files.{AnswersInput, Chosen, Mapped, PrintsInput, Shown};
 
 use chosen_cells::write_chosen;
-use command_line::{FileOptions, FileRequest, Request, option_value};
+use command_line::{FileOptions, FileRequest, Format, Request, option_value};
 use commands::filed::answer_input;
 use commands::serving::{arguments_of, serve_words};
 use driver::resources::Resources;
-use mapped::print_code_map;
+use mapped::{print_code_map, print_file_page};
 use outcomes::{Outcome, Refusal};
 use rounds::Open;
 use std::alloc::{Allocator, Global};
@@ -49,28 +49,64 @@ pub fn answer<S: AsStr, I: Read, W: Write + Drop, R: Threads + Wait + Sync>(
     flushed(writer, served)
 }
 
-/// Prints what is chosen of the text that is asked for of this input.
-fn answer_chosen<W: Write, R: Threads + Wait + Sync>(
-    cells: Option<&str>,
-    grid: Option<&str>,
+/// Prints what is asked for of this input, which was read of a file with these bytes, or the refusal.
+fn answer_over<W: Write, R: Threads + Wait + Sync>(
+    bytes: &[u8],
     request: &Request,
     input: &Result<Vec<u8>, Refusal>,
     writer: &mut W,
     resources: Resources<'_, Global, R, Open>,
 ) -> io::Result<Outcome>
-    ensures { Chosen (λ s o a. PrintsInput request.now input.now s o a) (option_map (λ s. s.now) cells.entry) (option_map (λ s. s.now) grid.entry)
+    ensures { PrintsInput bytes.now request.now input.now result (W.contents writer.old) (W.contents writer.new) }
+{
+    match (request, input) {
+        (
+            Request::Trace {
+                options,
+                last,
+                format: Format::Html,
+            },
+            Ok(input),
+        ) => print_file_page(resources, bytes, input, options, *last, writer),
+        _ => answer_input(request, input, writer, resources),
+    }
+}
+
+/// Prints what is chosen of the text that is asked for of this input.
+fn answer_chosen<W: Write, R: Threads + Wait + Sync>(
+    cells: Option<&str>,
+    grid: Option<&str>,
+    bytes: &[u8],
+    request: &Request,
+    input: &Result<Vec<u8>, Refusal>,
+    writer: &mut W,
+    resources: Resources<'_, Global, R, Open>,
+) -> io::Result<Outcome>
+    ensures { Chosen (λ s o a. PrintsInput bytes.now request.now input.now s o a) (option_map (λ s. s.now) cells.entry) (option_map (λ s. s.now) grid.entry)
         result (W.contents writer.old) (W.contents writer.new) }
 {
     let Resources { alloc, rt, gate } = resources;
     let mut text = Vec::new(alloc);
-    match answer_input(request, input, &mut text, Resources { alloc, rt, gate }) {
+    match answer_over(
+        bytes,
+        request,
+        input,
+        &mut text,
+        Resources { alloc, rt, gate },
+    ) {
         Ok(outcome) => match write_chosen(writer, cells, grid, &text) {
             Ok(()) => Ok(outcome),
             Err(fault) => Err(fault),
         },
         Err(_refused) => {
             let refused: Result<Vec<u8>, Refusal> = Err(Refusal::Memory);
-            answer_input(request, &refused, writer, Resources { alloc, rt, gate })
+            answer_over(
+                bytes,
+                request,
+                &refused,
+                writer,
+                Resources { alloc, rt, gate },
+            )
         }
     }
 }
@@ -79,21 +115,22 @@ fn answer_chosen<W: Write, R: Threads + Wait + Sync>(
 fn answer_shown<S: AsStr, W: Write, R: Threads + Wait + Sync>(
     words: &[S],
     options: FileOptions,
+    bytes: &[u8],
     request: &Request,
     input: &Result<Vec<u8>, Refusal>,
     writer: &mut W,
     resources: Resources<'_, Global, R, Open>,
 ) -> io::Result<Outcome>
-    ensures { Shown options (map S.text (drop 1 words.now)) (λ s o a. PrintsInput request.now input.now s o a) result (W.contents writer.old)
+    ensures { Shown options (map S.text (drop 1 words.now)) (λ s o a. PrintsInput bytes.now request.now input.now s o a) result (W.contents writer.old)
         (W.contents writer.new) }
 {
     if options.cells || options.grid {
         let words = arguments_of(words);
         let cells = option_value("cells", words);
         let grid = option_value("grid", words);
-        answer_chosen(cells, grid, request, input, writer, resources)
+        answer_chosen(cells, grid, bytes, request, input, writer, resources)
     } else {
-        answer_input(request, input, writer, resources)
+        answer_over(bytes, request, input, writer, resources)
     }
 }
 
@@ -107,13 +144,21 @@ fn answer_mapped<S: AsStr, W: Write, R: Threads + Wait + Sync>(
     resources: Resources<'_, Global, R, Open>,
 ) -> io::Result<Outcome>
     ensures { Mapped file.now.options.map bytes.now
-        (λ s o a. Shown file.now.options (map S.text (drop 1 words.now)) (λ s o a. PrintsInput file.now.request input.now s o a) s o a) result
+        (λ s o a. Shown file.now.options (map S.text (drop 1 words.now)) (λ s o a. PrintsInput bytes.now file.now.request input.now s o a) s o a) result
         (W.contents writer.old) (W.contents writer.new) }
 {
     if file.options.map {
         print_code_map(resources.alloc, bytes, writer)
     } else {
-        answer_shown(words, file.options, &file.request, input, writer, resources)
+        answer_shown(
+            words,
+            file.options,
+            bytes,
+            &file.request,
+            input,
+            writer,
+            resources,
+        )
     }
 }
 

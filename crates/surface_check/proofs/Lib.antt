@@ -20,3 +20,14 @@ pub mod OverLoops
 pub mod OverFors
 pub mod OverAll
 pub mod OverFunctions
+pub mod Moved
+pub mod RenamedSteps
+pub mod RenamedLoops
+pub mod OtherMain
+pub mod Numbers
+pub mod Whole
+pub mod Alike
+pub mod Closings
+pub mod OpenParts
+pub mod Dispatch
+pub mod Programs

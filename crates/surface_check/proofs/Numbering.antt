@@ -74,7 +74,7 @@ same_numbers names d i j = go (i == j) refl (same_name (named_by names i) (named
     go false e true h = absurd (eqb-false i j e (injective names d i j (same_name_is (named_by names i) (named_by names j) h)))
 
 -- a name beyond the table is none that has a meaning of its own
-none_beyond : (names : List Name) (n : ℕ) → length names ≤ n → name_of names n ≡ []
+pub none_beyond : (names : List Name) (n : ℕ) → length names ≤ n → name_of names n ≡ []
 none_beyond [] n h = refl
 none_beyond (x ∷ names) zero h = absurd (omega (arith, h))
 none_beyond (x ∷ names) (suc n) h = none_beyond names n (omega (arith, h))

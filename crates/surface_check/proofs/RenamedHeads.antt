@@ -101,7 +101,7 @@ core_evaluates_alike : {N M : Type 0} (f : N → M) (item : M → Option Entry) 
 core_evaluates_alike f item c (core_word.Name at x) = refl
 core_evaluates_alike f item c w = refl
 
-evaluates_alike : {N M : Type 0} (f : N → M) (item : M → Option Entry) (c : Evaluation) (w : Word N)
+pub evaluates_alike : {N M : Type 0} (f : N → M) (item : M → Option Entry) (c : Evaluation) (w : Word N)
     → evaluates (constants (λ n. item (f n))) c w ≡ evaluates (constants item) c (renamed f w)
 evaluates_alike f item c (word.Core w) = core_evaluates_alike f item c w
 evaluates_alike f item c w = refl
@@ -110,7 +110,7 @@ core_ends_alike : {N M : Type 0} (f : N → M) (w : CoreWord N) → core_ends_it
 core_ends_alike f core_word.EndFunction = refl
 core_ends_alike f w = refl
 
-ends_alike : {N M : Type 0} (f : N → M) (w : Word N) → ends_item (renamed f w) ≡ ends_item w
+pub ends_alike : {N M : Type 0} (f : N → M) (w : Word N) → ends_item (renamed f w) ≡ ends_item w
 ends_alike f (word.Core w) = core_ends_alike f w
 ends_alike f w = refl
 

@@ -6,3 +6,7 @@ pub mod Renamed
 pub mod Table
 pub mod Checks
 pub mod Callees
+pub mod NumbersChecked
+pub mod Stack
+pub mod Machine
+pub mod Programs

@@ -92,7 +92,7 @@ fn all_values(ranks: &[u64]) -> bool
 
 /// So many ranks from the first one on.
 #[tactic(auto, using(crate::proofs::Callees::within))]
-fn own_ranks(ranks: &[u64], first: usize, params: usize) -> &[u64]
+pub(crate) fn own_ranks(ranks: &[u64], first: usize, params: usize) -> &[u64]
     ensures { result.now ≡ take params (drop first ranks.now) }
 {
     let left = &ranks[first.min(ranks.len())..];

@@ -66,7 +66,7 @@ pub(crate) fn must_be(holds: bool, kind: CoreKind, at: usize) -> Result<(), Faul
     must(holds, FaultKind::Core { kind }, at)
 }
 
-fn is_main_name<'a>(name: &Name<'a>) -> bool
+pub(crate) fn is_main_name<'a>(name: &Name<'a>) -> bool
     ensures { IsTrue result ↔ (name.now ≡ main_name) }
 {
     name.bytes == b"main".as_slice()
@@ -128,7 +128,7 @@ fn written_results(at: usize, number: u64) -> Result<u64, Fault>
     Ok(number)
 }
 
-fn ends_item(word: &Word<usize>) -> bool
+pub(crate) fn ends_item(word: &Word<usize>) -> bool
     ensures { result ≡ heads.ends_item word.now }
 {
     match *word {
@@ -486,7 +486,7 @@ impl<A: Allocator> Reader<A> {
 }
 
 /// Reads the heads of all items.
-fn read<'a, A: Allocator + Clone>(
+pub(crate) fn read<'a, A: Allocator + Clone>(
     alloc: &A,
     names: &[Name<'a>],
     words: &[Word<usize>],

@@ -3,3 +3,5 @@
 
 #[cfg(test)]
 mod maps;
+#[cfg(test)]
+mod texts;

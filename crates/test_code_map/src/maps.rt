@@ -173,21 +173,36 @@ fn maps_of_random_graphs(rt: HostRuntime) -> Result<(), Fail> {
     Ok(())
 }
 
+/// Whether the map of the text's object is that one, if it is made. The map alone takes its rooms from the second allocator.
+fn is_map<R: Abort, A: Allocator + Clone>(
+    rt: &R,
+    plenty: A,
+    scarce: A,
+    text: &[u8],
+    map: &[Owner],
+) -> Option<bool> {
+    let checked = checked_of(rt, plenty, text);
+    match code_map(scarce, &checked) {
+        Ok(owners) => Some(owners.as_slice() == map),
+        Err(_) => None,
+    }
+}
+
 /// Each growth is refused in turn, until none is, and the map is that of plenty.
 #[test]
 fn refused_growths(rt: HostRuntime) -> Result<(), Fail> {
+    let checked = checked_of(&rt, rt.alloc(), graph_texts::SUM_LOOP);
+    let map = code_map(rt.alloc(), &checked)?;
     let plenty = Rationed::new(rt.alloc(), 0);
-    let checked = checked_of(&rt, &plenty, graph_texts::SUM_LOOP);
-    let map = code_map(&plenty, &checked)?;
     let mut refused = 0u64;
     let mut whole = false;
     for growth in 1..5_000u64 {
-        let heap = Rationed::new(rt.alloc(), growth);
-        let owners = code_map(&heap, &checked).ok();
-        whole = is_next_refused(&heap);
-        assert_eq!(rt; owners.is_some(), whole, "{growth}");
-        if let Some(owners) = owners {
-            assert!(rt; owners.as_slice() == map.as_slice());
+        let scarce = Rationed::new(rt.alloc(), growth);
+        let found = is_map(&rt, &plenty, &scarce, graph_texts::SUM_LOOP, &map);
+        whole = is_next_refused(&scarce);
+        assert_eq!(rt; found.is_some(), whole, "{growth}");
+        assert!(rt; found != Some(false));
+        if whole {
             break;
         }
         refused = refused.wrapping_add(1);

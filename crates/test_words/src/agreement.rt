@@ -264,6 +264,28 @@ fn may_warn(command: &str) -> bool {
     !matches!(command, "exec" | "upgrade" | "asm")
 }
 
+/// Whether the command prints the code of a graph, so that its map may be asked for.
+fn prints_code(command: &str) -> bool {
+    matches!(command, "compile" | "dis")
+}
+
+/// Whether the command prints lines alone, so that their format may be said.
+fn prints_lines(command: &str) -> bool {
+    matches!(
+        command,
+        "run" | "mean" | "check" | "profile" | "orders" | "lower"
+    )
+}
+
+/// Whether `clap` reads a format of a file's lines.
+fn is_format_said(command: &str, matches: &ArgMatches<'_>) -> bool {
+    match matches.get_str("format") {
+        Some("json") => prints_lines(command) || command == "trace",
+        Some(_format) => prints_lines(command),
+        None => false,
+    }
+}
+
 /// Whether `clap` reads these options of a file, with these values among the words.
 fn are_options_read(
     options: FileOptions,
@@ -274,14 +296,8 @@ fn are_options_read(
     let cells = option_value("cells", words);
     let grid = option_value("grid", words);
     let is_quiet = may_warn(command) && matches.get_flag("quiet");
-    let is_format = match command {
-        "run" | "mean" | "check" | "profile" | "orders" | "lower" => {
-            matches.get_str("format").is_some()
-        }
-        "trace" => matches.get_str("format") == Some("json"),
-        _ => false,
-    };
-    let is_map = matches!(command, "compile" | "dis") && matches.get_flag("map");
+    let is_format = is_format_said(command, matches);
+    let is_map = prints_code(command) && matches.get_flag("map");
     options.cells == cells.is_some()
         && options.grid == grid.is_some()
         && options.quiet == is_quiet

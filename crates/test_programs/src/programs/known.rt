@@ -12,7 +12,7 @@ pub struct Known {
 }
 
 /// The programs without a graph.
-pub const KNOWN: [Known; 12] = [
+pub const KNOWN: [Known; 34] = [
     Known {
         name: "fibonacci_loop.df",
         orders: Orders::All,
@@ -181,6 +181,208 @@ end Rest
         name: "tak.df",
         orders: Orders::ByDepth,
         prints: b"output 0 5
+deferred 0
+end Rest
+",
+    },
+    Known {
+        name: "ackermann.df",
+        orders: Orders::ByDepth,
+        prints: b"output 0 13
+deferred 0
+end Rest
+",
+    },
+    Known {
+        name: "bareiss.df",
+        orders: Orders::ByDepth,
+        prints: b"output 0 -4374
+deferred 0
+end Rest
+",
+    },
+    Known {
+        name: "binary_search.df",
+        orders: Orders::ByDepth,
+        prints: b"output 0 10
+output 1 7
+deferred 0
+end Rest
+",
+    },
+    Known {
+        name: "bitonic_sort.df",
+        orders: Orders::ByDepth,
+        prints: b"output 0 10
+output 1 0
+output 2 550
+output 3 947
+deferred 0
+end Rest
+",
+    },
+    Known {
+        name: "coins.df",
+        orders: Orders::ByDepth,
+        prints: b"output 0 73682
+deferred 0
+end Rest
+",
+    },
+    Known {
+        name: "crc.df",
+        orders: Orders::ByDepth,
+        prints: b"output 0 3421780262
+deferred 0
+end Rest
+",
+    },
+    Known {
+        name: "edit_distance.df",
+        orders: Orders::ByDepth,
+        prints: b"output 0 7
+deferred 0
+end Rest
+",
+    },
+    Known {
+        name: "histogram.df",
+        orders: Orders::ByDepth,
+        prints: b"output 0 13
+output 1 15
+output 2 19
+output 3 10
+output 4 15
+output 5 10
+output 6 9
+output 7 9
+deferred 0
+end Rest
+",
+    },
+    Known {
+        name: "knapsack.df",
+        orders: Orders::ByDepth,
+        prints: b"output 0 113
+deferred 0
+end Rest
+",
+    },
+    Known {
+        name: "life.df",
+        orders: Orders::ByDepth,
+        prints: b"output 0 8
+output 1 565
+deferred 0
+end Rest
+",
+    },
+    Known {
+        name: "mandelbrot.df",
+        orders: Orders::ByDepth,
+        prints: b"output 0 32
+output 1 944
+deferred 0
+end Rest
+",
+    },
+    Known {
+        name: "number_theoretic_transform.df",
+        orders: Orders::ByDepth,
+        prints: b"output 0 1616
+output 1 998244209
+output 2 934824099
+deferred 0
+end Rest
+",
+    },
+    Known {
+        name: "paraffins.df",
+        orders: Orders::ByDepth,
+        prints: b"output 0 75
+deferred 0
+end Rest
+",
+    },
+    Known {
+        name: "pascal.df",
+        orders: Orders::ByDepth,
+        prints: b"output 0 252
+output 1 1024
+deferred 0
+end Rest
+",
+    },
+    Known {
+        name: "pipeline.df",
+        orders: Orders::ByDepth,
+        prints: b"output 0 109
+output 1 15
+deferred 0
+end Rest
+",
+    },
+    Known {
+        name: "quicksort.df",
+        orders: Orders::ByDepth,
+        prints: b"output 0 13
+output 1 654
+output 2 960
+deferred 0
+end Rest
+",
+    },
+    Known {
+        name: "relaxation.df",
+        orders: Orders::ByDepth,
+        prints: b"output 0 6553
+output 1 756
+deferred 0
+end Rest
+",
+    },
+    Known {
+        name: "run_lengths.df",
+        orders: Orders::ByDepth,
+        prints: b"output 0 15
+output 1 4
+deferred 0
+end Rest
+",
+    },
+    Known {
+        name: "scan.df",
+        orders: Orders::ByDepth,
+        prints: b"output 0 4
+output 1 252
+output 2 453
+deferred 0
+end Rest
+",
+    },
+    Known {
+        name: "sieve.df",
+        orders: Orders::ByDepth,
+        prints: b"output 0 25
+output 1 97
+deferred 0
+end Rest
+",
+    },
+    Known {
+        name: "virtual_machine.df",
+        orders: Orders::ByDepth,
+        prints: b"output 0 3628800
+output 1 32
+deferred 0
+end Rest
+",
+    },
+    Known {
+        name: "warshall.df",
+        orders: Orders::ByDepth,
+        prints: b"output 0 12
+output 1 23
 deferred 0
 end Rest
 ",

@@ -1,0 +1,4 @@
+pub mod Given
+pub mod Taken
+pub mod Values
+pub mod Runs

@@ -1,0 +1,8 @@
+use Rattle.std.proofs.Common.{take}
+use Rattle.std.specs.Io.KnownBytes.{Appends}
+use Rattle.sink.specs.Numbered.{numbered}
+use Rattle.html_text.specs.PaneText.{owner_text}
+use Rattle.html_text.proofs.pane.send_listed_owners.Given as goal
+
+abbrev pub invariant-loop-place : goal.invariant-loop-place
+invariant-loop-place g l = Appends (g.W.Write.contents l.fn.writer) (g.W.Write.contents l.writer) (numbered owner_text 0 (take l.place l.owners))
