@@ -150,7 +150,7 @@ impl Form {
             Form::Waiting => br#"."waiting":{"frames":|n,"credits":|N}"#,
             Form::FramesSuffice => br#"."frames_that_suffice":|N"#,
             Form::StepsSuffice => br#"."steps_that_suffice":|N"#,
-            Form::FramesBounded => br#"."least_bounds":|b,"frames_that_suffice":|N"#,
+            Form::FramesBounded => br#"."where_bounds_are_at_least":|b,"frames_that_suffice":|N"#,
             Form::StepsBounded => br#"-"steps_that_suffice":|N"#,
             Form::Frames => br#"."frames":|N"#,
             Form::Clash => br#"."end":"Clash","array":|w,"index":|N"#,
