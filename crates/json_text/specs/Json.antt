@@ -11,7 +11,8 @@ use Rattle.json_text.specs.declared.slot.Slot.{Slot}
 abbrev pub Text : Type 0
 Text = List ℕ
 
--- STRINGS. The bytes 32 to 126 stand for themselves, but for `"` (34) and `\` (92), which have a `\` before them; any other byte is `\u00` and its two digits.
+-- STRINGS. The bytes 32 to 126 stand for themselves, but for `"` (34) and `\` (92), which have a `\` before them; a line feed (10) is `\n`, and any other
+-- byte is `\u00` and its two digits.
 abbrev pub is_plain : ℕ → Bool
 is_plain b = nat_le 32 b && nat_le b 126 && not (b == 34) && not (b == 92)
 
@@ -22,7 +23,11 @@ abbrev pub numbered_byte : ℕ → Text
 numbered_byte b = codes "\\u00" ++ (hex_digit (b / 16) ∷ hex_digit (b % 16) ∷ [])
 
 abbrev pub escaped_byte : ℕ → Text
-escaped_byte b = if is_plain b then b ∷ [] else (if b == 34 || b == 92 then 92 ∷ b ∷ [] else numbered_byte b)
+escaped_byte b =
+    if is_plain b then b ∷ []
+    else (if b == 34 || b == 92 then 92 ∷ b ∷ []
+    else (if b == 10 then codes "\\n"
+    else numbered_byte b))
 
 abbrev pub escaped : Text → Text
 escaped text = flat_map escaped_byte text

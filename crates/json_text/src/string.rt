@@ -43,6 +43,8 @@ fn send_byte<W: Write>(writer: &mut W, byte: u8) -> io::Result<()>
         send(writer, &[byte])
     } else if byte == b'"' || byte == b'\\' {
         send(writer, &[b'\\', byte])
+    } else if byte == b'\n' {
+        send(writer, b"\\n")
     } else {
         send_numbered(writer, byte)
     }
