@@ -10,7 +10,7 @@ use Rattle.outcomes.specs.declared.refusal.Refusal.{Refusal}
 use Rattle.commands.specs.FileInputs.{IsInputOf, IsNoInputOf}
 use Rattle.process.specs.declared.sending.HintSent.{HintSent}
 use Rattle.process.specs.HintSent.{Account, Speaks}
-use Rattle.process.specs.Files.{AnswersInput, AnswersRead, ChosenIf, ExplainsRead, Mapped, Printing, PrintsFile, PrintsInput, Shown}
+use Rattle.process.specs.Files.{AnswersInput, AnswersRead, ChosenIf, ExplainsRead, JsonIf, Mapped, Picked, Printing, PrintsFile, PrintsInput, Shown, asks_json}
 
 -- what was read of the file, or why that is nothing
 abbrev pub WasRead : {A : Type 0} → FileRequest → List ℕ → Result (Vec ℕ A) Refusal → Type 0
@@ -23,6 +23,12 @@ module _ (P Q : Printing) (go : (s : Result Outcome Error) (o a : Option (List �
   chosen_too false words served old all p = go served old all p
   chosen_too true words served old all (inl p) = inl (p.0, p.1, p.2, go (Ok p.1) (Some []) (Some p.0) p.3, p.4, p.5)
   chosen_too true words served old all (inr p) = inr p
+
+  -- so it is as JSON
+  pub json_too : (asked : Bool) (served : Result Outcome Error) (old all : Option (List ℕ)) → JsonIf asked P served old all → JsonIf asked Q served old all
+  json_too false served old all p = go served old all p
+  json_too true served old all (inl p) = inl (p.0, p.1, p.2, go (Ok p.1) (Some []) (Some p.0) p.3, p.4, p.5)
+  json_too true served old all (inr p) = inr p
 
   -- and the map is that of the file's bytes
   pub mapped_too : (asked : Bool) (bytes : List ℕ) (served : Result Outcome Error) (old all : Option (List ℕ))
@@ -44,8 +50,10 @@ answers_read file words bytes input old held new holds outcome before after is (
       served,
       mapped_too (λ s o a. Shown file.options words (λ s o a. PrintsInput bytes file.request input s o a) s o a)
           (λ s o a. Shown file.options words (λ s o a. PrintsFile bytes file s o a) s o a)
+          (json_too (λ s o a. Picked file.options words (λ s o a. PrintsInput bytes file.request input s o a) s o a)
+          (λ s o a. Picked file.options words (λ s o a. PrintsFile bytes file s o a) s o a)
           (chosen_too (λ s o a. PrintsInput bytes file.request input s o a) (λ s o a. PrintsFile bytes file s o a) (prints_file file bytes input is)
-          (file.options.cells || file.options.grid) words) file.options.map bytes served old all prints,
+          (file.options.cells || file.options.grid) words) (asks_json file.options words)) file.options.map bytes served old all prints,
       flushes,
     ))
 

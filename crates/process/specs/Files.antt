@@ -1,8 +1,8 @@
 -- What a process writes, and its exit status, where its words name a file.
-use Rattle.std.specs.Prelude.{◌≡◌, ◌≤◌, ◌⊎◌, ◌||◌, ℕ, Bool, true, false, List, [], ◌∷◌, length, Option, Some, None, Result, Ok, Err, IfSome, MatchResult, Vec, ⊤, codes}
+use Rattle.std.specs.Prelude.{◌≡◌, ◌≤◌, ◌⊎◌, ◌||◌, ◌&&◌, ℕ, Bool, true, false, List, [], ◌∷◌, length, Option, Some, None, Result, Ok, Err, IfSome, MatchResult, Vec, ⊤, codes}
 use Rattle.std.specs.Str.{bytes_eq}
 use Rattle.std.specs.declared.io.Error.{Error}
-use Rattle.command_line.specs.Files.{command_word, option_value}
+use Rattle.command_line.specs.Files.{command_word, is_json, option_value}
 use Rattle.command_line.specs.declared.Command.{Command}
 use Rattle.command_line.specs.declared.Format.{Format}
 use Rattle.command_line.specs.declared.Request.{Request}
@@ -11,11 +11,13 @@ use Rattle.command_line.specs.declared.given.FileRequest.{FileRequest}
 use Rattle.command_line.specs.declared.given.Given.{Given}
 use Rattle.sink.specs.Sends.{Sends}
 use Rattle.chosen_cells.specs.Chosen.{chosen}
+use Rattle.json_text.specs.Json.{json_of}
 use Rattle.files.specs.Files.{unread_line}
 use Rattle.files.specs.declared.unread.Unread.{Unread}
 use Rattle.outcomes.specs.declared.outcome.Outcome.{Outcome}
 use Rattle.outcomes.specs.declared.refusal.Refusal.{Refusal}
 use Rattle.commands.specs.Answered.{Answers as Prints}
+use Rattle.commands.specs.Refusals.{refusal_line}
 use Rattle.commands.specs.Served.{Refuses}
 use Rattle.commands.specs.FileInputs.{IsInputOf, IsNoInputOf}
 use Rattle.mapped.specs.Mapped.{PrintsCodeMap}
@@ -53,9 +55,26 @@ abbrev pub ChosenIf : Bool → Printing → List (List ℕ) → Printing
 ChosenIf false P words served old all = P served old all
 ChosenIf true P words served old all = Chosen P (option_value (codes "cells") words) (option_value (codes "grid") words) served old all
 
--- what is printed with these words, which give these options
+-- JSON, if it is asked for: where P is what is printed otherwise, the JSON of its text; or, where memory for that is refused, of the refusal's line
+abbrev pub Json : Printing → Printing
+Json P served old all =
+    ((text : List ℕ) × (printed : Outcome) × (sent : Result ⊤ Error) × P (Ok printed) (Some []) (Some text) × Sends sent old all (json_of text)
+    × (served ≡ done sent printed))
+    ⊎ ((sent : Result ⊤ Error) × Sends sent old all (json_of (refusal_line Refusal.Memory)) × (served ≡ done sent (Outcome.Refused Refusal.Memory)))
+
+abbrev pub JsonIf : Bool → Printing → Printing
+JsonIf false P served old all = P served old all
+JsonIf true P served old all = Json P served old all
+
+abbrev pub asks_json : FileOptions → List (List ℕ) → Bool
+asks_json options words = options.format && is_json (option_value (codes "format") words)
+
+-- what is printed with these words, which give these options: first cells are chosen
+abbrev pub Picked : FileOptions → List (List ℕ) → Printing → Printing
+Picked options words P served old all = ChosenIf (options.cells || options.grid) P words served old all
+
 abbrev pub Shown : FileOptions → List (List ℕ) → Printing → Printing
-Shown options words P served old all = ChosenIf (options.cells || options.grid) P words served old all
+Shown options words P served old all = JsonIf (asks_json options words) (λ s o a. Picked options words P s o a) served old all
 
 -- THE MAP of the code of a file with these bytes, if it is asked for: else P is what is printed
 abbrev pub Mapped : Bool → List ℕ → Printing → Printing

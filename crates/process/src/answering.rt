@@ -4,13 +4,14 @@ ghost use Rattle.std.specs.Prelude.{◌≡◌, [], IfSome, Ok, drop, map, option
 ghost use Rattle.std.specs.Io.Buffered.{writer_buffer, writer_contents, writer_inner};
 ghost use Rattle.std.specs.Io.KnownBytes.{Keeps};
 ghost use Rattle.process.specs.Process.{Answers};
-ghost use Rattle.process.specs.Files.{AnswersInput, Chosen, Mapped, PrintsInput, Shown};
+ghost use Rattle.process.specs.Files.{AnswersInput, Chosen, Json, Mapped, Picked, PrintsInput, Shown, asks_json};
 
 use chosen_cells::write_chosen;
 use command_line::{FileOptions, FileRequest, Format, Request, option_value};
 use commands::filed::answer_input;
 use commands::serving::{arguments_of, serve_words};
 use driver::resources::Resources;
+use json_text::write_json;
 use mapped::{print_code_map, print_file_page};
 use outcomes::{Outcome, Refusal};
 use rounds::Open;
@@ -19,6 +20,9 @@ use std::convert::AsStr;
 use std::io::{self, BufWriter, Read, Write};
 use std::sync::Wait;
 use std::thread::Threads;
+
+/// The line of a refusal of memory.
+const MEMORY: &[u8] = b"refused: memory\n";
 
 /// Writes out all that the buffer holds. Gives the outcome, where no write failed.
 fn flushed<W: Write + Drop, A: Allocator>(
@@ -111,6 +115,66 @@ fn answer_chosen<W: Write, R: Threads + Wait + Sync>(
     }
 }
 
+/// Prints what is asked for of this input with these words, which give these options, as text; or the refusal.
+fn answer_picked<S: AsStr, W: Write, R: Threads + Wait + Sync>(
+    words: &[S],
+    options: FileOptions,
+    bytes: &[u8],
+    request: &Request,
+    input: &Result<Vec<u8>, Refusal>,
+    writer: &mut W,
+    resources: Resources<'_, Global, R, Open>,
+) -> io::Result<Outcome>
+    ensures { Picked options (map S.text (drop 1 words.now)) (λ s o a. PrintsInput bytes.now request.now input.now s o a) result (W.contents writer.old)
+        (W.contents writer.new) }
+{
+    if options.cells || options.grid {
+        let words = arguments_of(words);
+        let cells = option_value("cells", words);
+        let grid = option_value("grid", words);
+        answer_chosen(cells, grid, bytes, request, input, writer, resources)
+    } else {
+        answer_over(bytes, request, input, writer, resources)
+    }
+}
+
+/// Prints the JSON of that. Where memory for the text is refused, it is that of the refusal.
+fn answer_json<S: AsStr, W: Write, R: Threads + Wait + Sync>(
+    words: &[S],
+    options: FileOptions,
+    bytes: &[u8],
+    request: &Request,
+    input: &Result<Vec<u8>, Refusal>,
+    writer: &mut W,
+    resources: Resources<'_, Global, R, Open>,
+) -> io::Result<Outcome>
+    ensures { Json (λ s o a. Picked options (map S.text (drop 1 words.now)) (λ s o a. PrintsInput bytes.now request.now input.now s o a) s o a) result
+        (W.contents writer.old) (W.contents writer.new) }
+{
+    let mut text = Vec::new(resources.alloc);
+    match answer_picked(words, options, bytes, request, input, &mut text, resources) {
+        Ok(outcome) => match write_json(writer, &text) {
+            Ok(()) => Ok(outcome),
+            Err(fault) => Err(fault),
+        },
+        Err(_refused) => match write_json(writer, MEMORY) {
+            Ok(()) => Ok(Outcome::Refused(Refusal::Memory)),
+            Err(fault) => Err(fault),
+        },
+    }
+}
+
+/// Whether the words, which give these options, ask for JSON.
+fn asks_json<S: AsStr>(words: &[S], options: FileOptions) -> bool
+    ensures { result ≡ asks_json options (map S.text (drop 1 words.now)) }
+{
+    options.format
+        && match option_value("format", arguments_of(words)) {
+            Some(format) => format == "json",
+            None => false,
+        }
+}
+
 /// Prints what is asked for of this input with these words, which give these options; or the refusal.
 fn answer_shown<S: AsStr, W: Write, R: Threads + Wait + Sync>(
     words: &[S],
@@ -124,13 +188,10 @@ fn answer_shown<S: AsStr, W: Write, R: Threads + Wait + Sync>(
     ensures { Shown options (map S.text (drop 1 words.now)) (λ s o a. PrintsInput bytes.now request.now input.now s o a) result (W.contents writer.old)
         (W.contents writer.new) }
 {
-    if options.cells || options.grid {
-        let words = arguments_of(words);
-        let cells = option_value("cells", words);
-        let grid = option_value("grid", words);
-        answer_chosen(cells, grid, bytes, request, input, writer, resources)
+    if asks_json(words, options) {
+        answer_json(words, options, bytes, request, input, writer, resources)
     } else {
-        answer_over(bytes, request, input, writer, resources)
+        answer_picked(words, options, bytes, request, input, writer, resources)
     }
 }
 
