@@ -6,6 +6,7 @@ use Rattle.command_line.specs.Files.{command_word, is_json, option_value}
 use Rattle.command_line.specs.declared.Command.{Command}
 use Rattle.command_line.specs.declared.Format.{Format}
 use Rattle.command_line.specs.declared.Request.{Request}
+use Rattle.command_line.specs.declared.RunOptions.{RunOptions}
 use Rattle.command_line.specs.declared.given.FileOptions.{FileOptions}
 use Rattle.command_line.specs.declared.given.FileRequest.{FileRequest}
 use Rattle.command_line.specs.declared.given.Given.{Given}
@@ -82,9 +83,16 @@ Mapped false bytes P served old all = P served old all
 Mapped true bytes P served old all = PrintsCodeMap served old all bytes
 
 -- WHAT IS PRINTED of an input that was read of a file with these bytes: what the command prints of it, but a page has the file's source, too
+abbrev pub page_asked : Request → Option (RunOptions × Option ℕ)
+page_asked (Request.Trace o last Format.Html) = Some (o, last)
+page_asked request = None
+
+abbrev pub PrintsAsked : Option (RunOptions × Option ℕ) → List ℕ → List ℕ → Request → Printing
+PrintsAsked (Some page) bytes input request served old all = PrintsFilePage served old all bytes input page.0 page.1
+PrintsAsked None bytes input request served old all = Prints served old all input request
+
 abbrev pub PrintsOver : List ℕ → List ℕ → Request → Printing
-PrintsOver bytes input (Request.Trace o last Format.Html) served old all = PrintsFilePage served old all bytes input o last
-PrintsOver bytes input request served old all = Prints served old all input request
+PrintsOver bytes input request served old all = PrintsAsked (page_asked request) bytes input request served old all
 
 -- of this input, or the refusal, and whether it was written out
 abbrev pub PrintsInput : {A : Type 0} → List ℕ → Request → Result (Vec ℕ A) Refusal → Printing

@@ -1,15 +1,17 @@
 //! The answer on standard output, and its outcome.
 
-ghost use Rattle.std.specs.Prelude.{◌≡◌, [], IfSome, Ok, drop, map, option_map};
+ghost use Rattle.std.specs.Prelude.{◌≡◌, [], IfSome, MatchResult, Ok, drop, map, option_map};
 ghost use Rattle.std.specs.Io.Buffered.{writer_buffer, writer_contents, writer_inner};
 ghost use Rattle.std.specs.Io.KnownBytes.{Keeps};
+ghost use Rattle.commands.specs.Served.{Refuses};
+ghost use Rattle.mapped.specs.Paned.{PrintsFilePage};
 ghost use Rattle.process.specs.Process.{Answers};
-ghost use Rattle.process.specs.Files.{AnswersInput, Chosen, Json, Mapped, Picked, PrintsInput, Shown, asks_json};
+ghost use Rattle.process.specs.Files.{AnswersInput, Chosen, Json, Mapped, Picked, PrintsInput, Shown, asks_json, page_asked};
 
 use chosen_cells::write_chosen;
-use command_line::{FileOptions, FileRequest, Format, Request, option_value};
+use command_line::{FileOptions, FileRequest, Format, Request, RunOptions, option_value};
 use commands::filed::answer_input;
-use commands::serving::{arguments_of, serve_words};
+use commands::serving::{arguments_of, refuse, serve_words};
 use driver::resources::Resources;
 use json_text::write_json;
 use mapped::{print_code_map, print_file_page};
@@ -53,6 +55,38 @@ pub fn answer<S: AsStr, I: Read, W: Write + Drop, R: Threads + Wait + Sync>(
     flushed(writer, served)
 }
 
+/// The options and the last events of the page that is asked for, if one is.
+fn page_asked(request: &Request) -> Option<(&RunOptions, Option<u64>)>
+    ensures { option_map (λ p. (p.0.now, p.1)) result ≡ page_asked request.now }
+{
+    match request {
+        Request::Trace {
+            options,
+            last,
+            format: Format::Html,
+        } => Some((options, *last)),
+        _ => None,
+    }
+}
+
+/// Prints the page of a run of this input, which was read of a file with these bytes, or the refusal.
+fn answer_page<W: Write, R: Threads + Wait + Sync>(
+    bytes: &[u8],
+    options: &RunOptions,
+    last: Option<u64>,
+    input: &Result<Vec<u8>, Refusal>,
+    writer: &mut W,
+    resources: Resources<'_, Global, R, Open>,
+) -> io::Result<Outcome>
+    ensures { MatchResult input.now (λ v. PrintsFilePage result (W.contents writer.old) (W.contents writer.new) bytes.now v.items options.now last)
+        (Refuses result (W.contents writer.old) (W.contents writer.new)) }
+{
+    match input {
+        Ok(input) => print_file_page(resources, bytes, input, options, last, writer),
+        Err(refusal) => refuse(writer, refusal),
+    }
+}
+
 /// Prints what is asked for of this input, which was read of a file with these bytes, or the refusal.
 fn answer_over<W: Write, R: Threads + Wait + Sync>(
     bytes: &[u8],
@@ -63,16 +97,9 @@ fn answer_over<W: Write, R: Threads + Wait + Sync>(
 ) -> io::Result<Outcome>
     ensures { PrintsInput bytes.now request.now input.now result (W.contents writer.old) (W.contents writer.new) }
 {
-    match (request, input) {
-        (
-            Request::Trace {
-                options,
-                last,
-                format: Format::Html,
-            },
-            Ok(input),
-        ) => print_file_page(resources, bytes, input, options, *last, writer),
-        _ => answer_input(request, input, writer, resources),
+    match page_asked(request) {
+        Some((options, last)) => answer_page(bytes, options, last, input, writer, resources),
+        None => answer_input(request, input, writer, resources),
     }
 }
 
