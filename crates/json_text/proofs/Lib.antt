@@ -1,3 +1,4 @@
 pub mod Steps
 pub mod Walk
 pub mod Plain
+pub mod Strings

@@ -3,6 +3,7 @@
 #![tactic(auto)]
 
 mod form;
+mod law;
 mod object;
 mod row;
 mod slot;
@@ -10,4 +11,5 @@ mod string;
 mod value;
 mod words;
 
+pub use law::strings_are_whole;
 pub use object::write_json;
