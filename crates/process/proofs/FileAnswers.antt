@@ -1,6 +1,6 @@
 -- What is printed of a file, and what explains it.
-use Rattle.std.proofs.Common.{◌≡◌, ◌⊎◌, ℕ, Bool, true, false, List, [], ◌++◌, inl, inr, subst, sym}
-use Rattle.std.specs.Prelude.{◌||◌, Option, Some, None, Result, Ok, Err, MatchResult, Vec}
+use Rattle.std.proofs.Common.{◌≡◌, ◌⊎◌, ℕ, Bool, true, false, List, [], ◌++◌, inl, inr, subst, sym, refl}
+use Rattle.std.specs.Prelude.{◌||◌, ⊤, Option, Some, None, Result, Ok, Err, MatchResult, Vec}
 use Rattle.std.specs.declared.io.Error.{Error}
 use Rattle.command_line.specs.declared.Request.{Request}
 use Rattle.command_line.specs.declared.given.FileRequest.{FileRequest}
@@ -10,7 +10,10 @@ use Rattle.outcomes.specs.declared.refusal.Refusal.{Refusal}
 use Rattle.commands.specs.FileInputs.{IsInputOf, IsNoInputOf}
 use Rattle.process.specs.declared.sending.HintSent.{HintSent}
 use Rattle.process.specs.HintSent.{Account, Speaks}
-use Rattle.process.specs.Files.{AnswersInput, AnswersRead, ChosenIf, ExplainsRead, JsonIf, Mapped, Picked, Printing, PrintsFile, PrintsInput, Shown, asks_json}
+use Rattle.process.specs.Files.{AnswersInput, AnswersRead, ChosenIf, ExplainsRead, Json, JsonIf, Mapped, Picked, Printing, PrintsFile, PrintsInput, Shown, asks_json, done}
+use Rattle.json_text.specs.Json.{json_of}
+use Rattle.sink.specs.Sends.{Sends}
+use Rattle.sink.proofs.Sent.{sends_same}
 
 -- what was read of the file, or why that is nothing
 abbrev pub WasRead : {A : Type 0} → FileRequest → List ℕ → Result (Vec ℕ A) Refusal → Type 0
@@ -35,6 +38,19 @@ module _ (P Q : Printing) (go : (s : Result Outcome Error) (o a : Option (List �
       → Mapped asked bytes P served old all → Mapped asked bytes Q served old all
   mapped_too false bytes served old all p = go served old all p
   mapped_too true bytes served old all p = p
+
+-- what was printed into an empty text is written as JSON
+pub as_json : (P : Printing) (printed : Outcome) (empty text : List ℕ) (old all : Option (List ℕ)) (sent : Result ⊤ Error) (json : List ℕ) → empty ≡ []
+    → P (Ok printed) (Some empty) (Some text) → json ≡ json_of text → Sends sent old all json → Json P (done sent printed) old all
+as_json P printed empty text old all sent json nothing prints same sends =
+    inl (
+      text,
+      printed,
+      sent,
+      subst (λ (xs : List ℕ). P (Ok printed) (Some xs) (Some text)) nothing prints,
+      sends_same sent old all json (json_of text) same sends,
+      refl,
+    )
 
 prints_file : {A : Type 0} (file : FileRequest) (bytes : List ℕ) (input : Result (Vec ℕ A) Refusal) → WasRead file bytes input
     → (s : Result Outcome Error) (o a : Option (List ℕ)) → PrintsInput bytes file.request input s o a → PrintsFile bytes file s o a
