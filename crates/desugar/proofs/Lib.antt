@@ -56,3 +56,12 @@ pub mod Calls2
 pub mod Trees2
 pub mod Wanted2
 pub mod Items2
+pub mod Renamings2
+pub mod RenamedForms2
+pub mod Renamed2
+pub mod RenamedCells2
+pub mod RenamedSteps2
+pub mod RenamedFlags2
+pub mod Compared2
+pub mod ComparedFlags2
+pub mod Numbers2

@@ -19,3 +19,4 @@ pub mod Steps2
 pub mod Flags2
 pub mod Plain2
 pub mod StepsDesugar2
+pub mod NumbersDesugar2
