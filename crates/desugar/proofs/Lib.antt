@@ -65,3 +65,5 @@ pub mod RenamedFlags2
 pub mod Compared2
 pub mod ComparedFlags2
 pub mod Numbers2
+pub mod CoreMade2
+pub mod StepSamples2

@@ -20,3 +20,4 @@ pub mod Flags2
 pub mod Plain2
 pub mod StepsDesugar2
 pub mod NumbersDesugar2
+pub mod CoreMade2
