@@ -1,6 +1,6 @@
 -- CALLS of what is built in
-use Rattle.std.specs.Prelude.{◌≡◌, refl, ℕ, ◌==◌, ◌+◌, Bool, true, false, ℤ, List, [], ◌∷◌, ◌++◌, length, take, slice_index_or, Option, None, Some, Ok}
-use Rattle.std.proofs.Common.{◌∙◌, ap, ap₂, sym, append_assoc}
+use Rattle.std.specs.Prelude.{◌≡◌, refl, ℕ, ◌==◌, ◌+◌, Bool, true, false, ℤ, List, [], ◌∷◌, ◌++◌, length, slice_index_or, Option, None, Some, Ok}
+use Rattle.std.proofs.Common.{◌∙◌, ap, sym, append_assoc}
 use Rattle.std.proofs.lemmas.List.{append-nil}
 use Rattle.std.proofs.Math.Seq.{take-append_seam, drop-append_seam}
 use Rattle.operators.specs.declared.Unary.TheVariants.{Neg}
@@ -14,12 +14,12 @@ use Rattle.source.specs.Words.{Words, words}
 use Rattle.surface.specs.declared.word.Word.TheVariants as word
 use Rattle.surface.specs.Tree.{Expr, Named, Call, Exprs, One, More}
 use Rattle.surface.specs.Fits.{count}
-use Rattle.surface.specs.Known.{BuiltIn, Min, Max, Abs, Len, Callee, IsBuiltIn, lookup}
+use Rattle.surface.specs.Known.{BuiltIn, Min, Max, Abs, Len, Callee, IsBuiltIn}
 use Rattle.surface.specs.Constants.{place_of, constant, number_or_zero}
 use Rattle.surface.specs.Rules.{is_number}
 use Rattle.surface.specs.Making.{Held, Made, hidden, target, bound_to}
 use Rattle.surface.specs.CoreForms.{infix_at, chosen, sign_of, without_sign}
-use Rattle.surface.specs.Desugar.{Setting, lengths_for, atom, measure, desugar, desugar_all, desugar_values, desugar_first, desugar_pair, call_made}
+use Rattle.surface.specs.Desugar.{Setting, lengths_for, atom, desugar, desugar_all, desugar_values, desugar_first, desugar_pair, call_made}
 use Rattle.desugar.specs.declared.frame.Atom.{Atom}
 use Rattle.desugar.specs.declared.frame.Atom.TheVariants as an
 use Rattle.desugar.specs.declared.frame.Given.{Given}
@@ -35,7 +35,7 @@ use Rattle.desugar.proofs.Noted2.{Noted, noted, noted_arguments, o}
 use Rattle.desugar.proofs.Held2.{held, held_words, held-append, state, same, on}
 use Rattle.desugar.proofs.Atoms2.{self_of, IsAtom, IsCut, cut_is, let_is, stands}
 use Rattle.desugar.proofs.Lists2.{chosen_lists, sign_lists, without_lists}
-use Rattle.desugar.proofs.Over2.{Over, value, no_lets, one_lets, two_lets, at_level_words}
+use Rattle.desugar.proofs.Over2.{Over, value, no_lets, two_lets, at_level_words}
 use Rattle.desugar.proofs.Constants2.{Leaves, leaves}
 
 -- WORDS

@@ -1,12 +1,12 @@
 -- CELLS, and CALLS of functions of values and of what is built in.
-use Rattle.std.specs.Prelude.{◌≡◌, refl, ℕ, ◌==◌, Bool, true, false, List, [], ◌∷◌, ◌++◌, length, None}
-use Rattle.std.proofs.Common.{◌∙◌, ap, sym, append_assoc}
+use Rattle.std.specs.Prelude.{◌≡◌, ℕ, ◌==◌, Bool, true, false, List, [], ◌∷◌, ◌++◌, length, None}
+use Rattle.std.proofs.Common.{◌∙◌, ap, append_assoc}
 use Rattle.source.specs.declared.word.Word.TheVariants as core
 use Rattle.source.specs.Tree as tree
 use Rattle.source.specs.Tree.{Name}
 use Rattle.source.specs.Words.{words, part_words, Words}
 use Rattle.surface.specs.declared.word.Word.TheVariants as word
-use Rattle.surface.specs.Tree.{Expr, Number, Named, Bracket, Prefix, Infix, And, Or, Not, Fetch, Store, Call, If, Loop, For, Exprs, One, More}
+use Rattle.surface.specs.Tree.{Expr, Named, Fetch, Store, Call, Exprs, One, More}
 use Rattle.surface.specs.Fits.{count}
 use Rattle.surface.specs.Known.{BuiltIn, Min, Max, Abs, Len, Callee, Missing, OfValues, OfArrays, IsBuiltIn, callee}
 use Rattle.surface.specs.Making.{Made}
@@ -15,7 +15,7 @@ use Rattle.desugar.specs.declared.frame.Atom.{Atom}
 use Rattle.desugar.specs.declared.frame.Given.{Given}
 use Rattle.desugar.specs.Frames2.{Frame}
 use Rattle.desugar.specs.Frames2 as frame
-use Rattle.desugar.specs.Plain2.{IsMeasured, IsOne, AreTwo, HasArguments, Ordinary}
+use Rattle.desugar.specs.Plain2.{IsMeasured, HasArguments, Ordinary}
 use Rattle.desugar.specs.Steps2.{State, said, fetched, steps}
 use Rattle.desugar.specs.StepsDesugar2.{names_in}
 use Rattle.desugar.proofs.Noted2.{noted, noted_indexes, noted_arguments, o}

@@ -1,6 +1,6 @@
 -- CONSTANTS BY THEIR WORDS. An expression that is a constant holds no `let`s, and its words leave its number.
-use Rattle.std.specs.Prelude.{◌≡◌, refl, ℕ, ◌&&◌, Bool, true, false, ℤ, pos, negsuc, neg_ℤ, List, [], ◌∷◌, ◌++◌, Option, None, Some, Result, Ok, Err, if◌then◌else◌}
-use Rattle.std.proofs.Common.{◌∙◌, ap, sym, append_assoc}
+use Rattle.std.specs.Prelude.{◌≡◌, refl, ℕ, Bool, true, false, ℤ, pos, negsuc, neg_ℤ, List, [], ◌∷◌, ◌++◌, Option, None, Some, Result, Ok, Err, if◌then◌else◌}
+use Rattle.std.proofs.Common.{◌∙◌, ap, append_assoc}
 use Rattle.operators.specs.declared.Unary.{Unary}
 use Rattle.operators.specs.declared.Unary.TheVariants as unary
 use Rattle.source.specs.declared.word.InfixSign.{InfixSign}
@@ -15,11 +15,10 @@ use Rattle.surface.specs.declared.fault.FaultKind.TheVariants.{Core, BadConst}
 use Rattle.surface.specs.Tree.{Expr, Number, Named, Bracket, Prefix, Infix}
 use Rattle.surface.specs.First.{◌>>=◌, refused}
 use Rattle.surface.specs.Known.{lookup}
-use Rattle.surface.specs.Constants.{is_in_64_bits, in_64_bits, inverted, combined, constant, constant_or}
+use Rattle.surface.specs.Constants.{is_in_64_bits, inverted, combined, constant, constant_or}
 use Rattle.surface.specs.Making.{Made}
 use Rattle.surface.specs.Desugar.{Setting, constant_or_value, desugar}
-use Rattle.desugar.specs.Forms2.{prefix_value, prefixed, infix_value, infixed, evaluated}
-use Rattle.desugar.proofs.Over2.{no_lets}
+use Rattle.desugar.specs.Forms2.{prefix_value, infix_value, evaluated}
 
 -- what a constant leaves
 pub record Leaves (m : Made tree.Expr) (g : ℕ) (z : ℤ) : Type 0 where

@@ -3,7 +3,7 @@ use Rattle.std.specs.Prelude.{◌≡◌, refl, [], ◌∷◌, ◌++◌}
 use Rattle.source.specs.declared.word.Word.{Word as CoreWord}
 use Rattle.source.specs.Tree.{Name}
 use Rattle.source.specs.Words.{Words}
-use Rattle.desugar.proofs.Lists.{Joined, At, Nil, Then, equal}
+use Rattle.desugar.proofs.Lists.{At, Nil, Then, equal}
 
 pub row_lists : (a p j q : Words) (left name mul add : CoreWord Name) → (a ++ (p ++ left ∷ []) ++ name ∷ mul ∷ left ∷ []) ++ j ++ (q ++ add ∷ [])
     ≡ a ++ p ++ left ∷ name ∷ [] ++ mul ∷ [] ++ left ∷ (j ++ q) ++ add ∷ []

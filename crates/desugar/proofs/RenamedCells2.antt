@@ -13,14 +13,14 @@ use Rattle.desugar.specs.Forms.{right_end}
 use Rattle.desugar.specs.Forms2.{row_begins, checked_words, two_let_words, sign_words, without_sign_words, number_of}
 use Rattle.desugar.specs.Frames2.{Check, Frame}
 use Rattle.desugar.specs.Frames2 as frame
-use Rattle.desugar.specs.Steps2.{Names, State, said, plain, cut, atom_of, passed, held_by_name, length_at, row_opened, row_ended, next_index, index_ended, cell_opened, fetched, stored}
+use Rattle.desugar.specs.Steps2.{Names, State, said, plain, cut, atom_of, held_by_name, length_at, row_opened, row_ended, next_index, index_ended, cell_opened, fetched, stored}
 use Rattle.desugar.specs.Steps2.{callee, list_begun, two_values, built_in_argument, argument, part, measured, built_in_ended, call_ended}
 use Rattle.desugar.specs.Renamed.{core_renamed}
 use Rattle.desugar.proofs.Renamings.{atom_renamed, maybe_renamed, words_in}
-use Rattle.desugar.proofs.Renamings2.{frame_renamed, check_renamed, maybe_check, stack_in, moved, Alike}
-use Rattle.desugar.proofs.RenamedForms.{Renames, lit, both, taken, dropped, let_renamed, right_end_renamed}
+use Rattle.desugar.proofs.Renamings2.{frame_renamed, maybe_check, stack_in, moved, Alike}
+use Rattle.desugar.proofs.RenamedForms.{Renames, lit, both, dropped, let_renamed, right_end_renamed}
 use Rattle.desugar.proofs.RenamedForms2.{row_begins_renamed, checked_renamed, two_let_renamed, chosen_renamed, sign_renamed, without_renamed, number_renamed}
-use Rattle.desugar.proofs.Renamed2.{said_at, said_on, cut_renamed, atom_of_renamed, opened_renamed, passed_renamed}
+use Rattle.desugar.proofs.Renamed2.{said_on, cut_renamed, atom_of_renamed, opened_renamed, passed_renamed}
 
 -- A HIDDEN NAME for words
 held_renamed : {N M : Type 0} (f : N → M) (t : Names N) (r : Names M) → Alike f t r → (s : State N) (at : ℕ) {vs : List (CoreWord M)} {ws : List (CoreWord N)} → Renames f vs ws
@@ -127,6 +127,7 @@ list_renamed f s b (frame.To c first ∷ st) = said_on f s (frame.To c first ∷
 list_renamed f s b (frame.Over c first end names firsts ∷ st) = said_on f s (frame.Over c first end names firsts ∷ st) (lit f (core.List ∷ []))
 list_renamed f s b (frame.Cells words lets array last ∷ st) = said_on f s (frame.Cells words lets array last ∷ st) (lit f (core.List ∷ []))
 list_renamed f s b (frame.Constant words lets ∷ st) = said_on f s (frame.Constant words lets ∷ st) (lit f (core.List ∷ []))
+
 -- one more argument as an atom
 kept_renamed : {N M : Type 0} (f : N → M) (t : Names N) (r : Names M) → Alike f t r → (s : State N) (start place : ℕ) (x : Option (Atom N)) (g : Atom N → Frame N)
     (h : Atom M → Frame M) → ((y : Atom N) → h (atom_renamed f y) ≡ frame_renamed f (g y)) → (st : List (Frame N))

@@ -1,6 +1,6 @@
 -- FORMS OF THE CORE with other names: of indexes of tables, and of what is built in.
-use Rattle.std.specs.Prelude.{◌≡◌, refl, ℕ, ℤ, pos, List, [], ◌∷◌, ◌++◌, Option, None, Some}
-use Rattle.std.proofs.Common.{◌∙◌, ap}
+use Rattle.std.specs.Prelude.{◌≡◌, refl, ℕ, ℤ, pos, List, [], ◌∷◌, Option, None, Some}
+use Rattle.std.proofs.Common.{ap}
 use Rattle.operators.specs.declared.Unary.TheVariants.{Neg}
 use Rattle.operators.specs.declared.Binary.TheVariants.{Mul, Sub, Div, And, Or, Xor, Shr, Ne, Lt}
 use Rattle.source.specs.declared.word.InfixSign.TheVariants.{Direct}

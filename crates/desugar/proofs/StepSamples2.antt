@@ -1,5 +1,5 @@
 -- WHAT THE STEPS MAKE OF SAMPLES, word by word.
-use Rattle.std.specs.Prelude.{◌≡◌, refl, ℕ, false, true, List, [], ◌∷◌, codes, pos, None, Ok, Err}
+use Rattle.std.specs.Prelude.{◌≡◌, refl, false, [], ◌∷◌, codes, pos, None, Ok, Err}
 use Rattle.std.specs.Fmt.{digits}
 use Rattle.semantics.specs.Graph.{same_name}
 use Rattle.operators.specs.declared.Unary.TheVariants.{Neg}

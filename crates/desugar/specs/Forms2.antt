@@ -2,7 +2,7 @@
 use Rattle.std.specs.Prelude.{ℕ, ℤ, pos, neg_ℤ, List, [], ◌∷◌, ◌++◌, Option, None, Some, Result, Ok, Err}
 use Rattle.operators.specs.declared.Unary.{Unary}
 use Rattle.operators.specs.declared.Unary.TheVariants as unary
-use Rattle.operators.specs.declared.Binary.TheVariants.{Add, Sub, Mul, Div, And, Or, Xor, Shr, Ne, Lt}
+use Rattle.operators.specs.declared.Binary.TheVariants.{Sub, Mul, Div, And, Or, Xor, Shr, Ne, Lt}
 use Rattle.source.specs.declared.word.InfixSign.{InfixSign}
 use Rattle.source.specs.declared.word.InfixSign.TheVariants.{Direct}
 use Rattle.source.specs.declared.word.Word.{Word}
