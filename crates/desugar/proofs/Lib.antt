@@ -67,3 +67,4 @@ pub mod ComparedFlags2
 pub mod Numbers2
 pub mod CoreMade2
 pub mod StepSamples2
+pub mod PlainIsPlain2
