@@ -1,5 +1,5 @@
 -- CALLS of what is built in
-use Rattle.std.specs.Prelude.{◌≡◌, refl, ℕ, ◌==◌, ◌+◌, Bool, true, false, ℤ, List, [], ◌∷◌, ◌++◌, length, slice_index_or, Option, None, Some, Ok}
+use Rattle.std.specs.Prelude.{◌≡◌, refl, ℕ, ◌==◌, ◌+◌, Bool, true, false, ℤ, List, [], ◌∷◌, ◌++◌, length, slice_index_or, Option, None, Some}
 use Rattle.std.proofs.Common.{◌∙◌, ap, sym, append_assoc}
 use Rattle.std.proofs.lemmas.List.{append-nil}
 use Rattle.std.proofs.Math.Seq.{take-append_seam, drop-append_seam}
@@ -30,7 +30,7 @@ use Rattle.desugar.specs.Frames2 as frame
 use Rattle.desugar.specs.Steps2 as step
 use Rattle.desugar.specs.Steps2.{State, said, plain, named, atom_of, steps}
 use Rattle.desugar.specs.StepsDesugar2.{names_in, which_built_in}
-use Rattle.desugar.specs.Plain2.{IsNoConstant}
+use Rattle.desugar.specs.Plain2.{IsNoConstant, IsDimension}
 use Rattle.desugar.proofs.Noted2.{Noted, noted, noted_arguments, o}
 use Rattle.desugar.proofs.Held2.{held, held_words, held-append, state, same, on}
 use Rattle.desugar.proofs.Atoms2.{self_of, IsAtom, IsCut, cut_is, let_is, stands}
@@ -196,18 +196,18 @@ over_len s at strict f x_at x p t ws ls g ns fs st =
     ap (λ (c : Option ℤ). steps (names_in s) (named (state ws ls g ns fs so) x_at x c) ((word.Core core.Part, true) ∷ o (core.Call at strict f) ∷ [])) p
     ∙ same (ap (λ (z : Words). z ++ core.Number at n ∷ []) (take-append_seam ws (core.Name x_at x ∷ []))) (no_lets ls)
 
-pub over_len_of : (s : Setting) (at : ℕ) (strict : Bool) (f : Name) (x_at : ℕ) (x : Name) (d : Expr) (z : ℤ) → IsNoConstant s.known x → constant s.known d ≡ Ok z → Over s false d
+pub over_len_of : (s : Setting) (at : ℕ) (strict : Bool) (f : Name) (x_at : ℕ) (x : Name) (d : Expr) → IsNoConstant s.known x → IsDimension s.known d → Over s false d
     → OverCall s at strict f (More (Named x_at x) (One d)) (IsBuiltIn Len)
-over_len_of s at strict f x_at x d z p e h t ws ls g ns fs st =
+over_len_of s at strict f x_at x d p e h t ws ls g ns fs st =
     let so : List (Frame Name) = frame.Operation (length ws) at Len false None None ∷ st in
     let sn : List (Frame Name) = frame.Operation (length ws) at Len false (Some (an.Name x_at x)) None ∷ st in
     let m : Made tree.Expr = desugar s false d g in
-    let r : Leaves m g z = leaves s false d g z e in
+    let r : Leaves m g e.number = leaves s false d g e.number e.is e.small in
     let rest : Noted = noted false d ++ (word.Core core.Part, true) ∷ [] ++ o (core.Call at strict f) ∷ [] in
     let lists : noted_arguments (More (Named x_at x) (One d)) ++ o (core.Call at strict f) ∷ [] ≡ o (core.Name x_at x) ∷ (word.Core core.Part, true) ∷ rest = refl in
     let ends : Noted = (word.Core core.Part, true) ∷ o (core.Call at strict f) ∷ [] in
     let number : number_of (words m.it) ≡ number_or_zero (constant s.known d) =
-    ap (λ (v : Words). first_number (evaluated v [])) (sym (append-nil (words m.it))) ∙ ap first_number (r.number [] []) ∙ ap number_or_zero (sym e) in
+    ap (λ (v : Words). first_number (evaluated v [])) (sym (append-nil (words m.it))) ∙ ap first_number (r.number [] []) ∙ ap number_or_zero (sym e.is) in
     ap (λ (c : Option ℤ). steps (names_in s) (named (state ws ls g ns fs so) x_at x c) ((word.Core core.Part, true) ∷ rest)) p
     ∙ ap (λ (v : Words). steps (names_in s) (state v ls g ns fs sn) rest) (take-append_seam ws (core.Name x_at x ∷ []))
     ∙ ap (λ (v : Noted). steps (names_in s) (state ws ls g ns fs sn) v) (append_assoc (noted false d) ((word.Core core.Part, true) ∷ []) (o (core.Call at strict f) ∷ []))

@@ -82,7 +82,7 @@ called s at strict f es h t ws ls g ns fs st =
 -- `len` of a name alone, and with a dimension
 measured_of : (s : Setting) (at : ℕ) (strict : Bool) (f : Name) (es : Exprs) → IsMeasured s.known es → OverEach s es → OverCall s at strict f es (IsBuiltIn Len)
 measured_of s at strict f (One (Named x_at x)) p h = over_len s at strict f x_at x p
-measured_of s at strict f (More (Named x_at x) (One d)) p h = over_len_of s at strict f x_at x d p.1.0 p.0 p.1.1 h.1
+measured_of s at strict f (More (Named x_at x) (One d)) p h = over_len_of s at strict f x_at x d p.0 p.1 h.1
 measured_of s at strict f (More (Named x_at x) (More d es)) p h = absurd p
 measured_of s at strict f (One e) p h = absurd p
 measured_of s at strict f (More e es) p h = absurd p

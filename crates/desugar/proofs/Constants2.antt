@@ -1,5 +1,5 @@
 -- CONSTANTS BY THEIR WORDS. An expression that is a constant holds no `let`s, and its words leave its number.
-use Rattle.std.specs.Prelude.{◌≡◌, refl, ℕ, Bool, true, false, ℤ, pos, negsuc, neg_ℤ, List, [], ◌∷◌, ◌++◌, Option, None, Some, Result, Ok, Err, if◌then◌else◌}
+use Rattle.std.specs.Prelude.{◌≡◌, refl, ℕ, suc, Bool, true, false, ℤ, pos, negsuc, List, [], ◌∷◌, ◌++◌, Option, None, Some, Result, Ok, Err, if◌then◌else◌, ⊤}
 use Rattle.std.proofs.Common.{◌∙◌, ap, append_assoc}
 use Rattle.operators.specs.declared.Unary.{Unary}
 use Rattle.operators.specs.declared.Unary.TheVariants as unary
@@ -18,6 +18,7 @@ use Rattle.surface.specs.Known.{lookup}
 use Rattle.surface.specs.Constants.{is_in_64_bits, inverted, combined, constant, constant_or}
 use Rattle.surface.specs.Making.{Made}
 use Rattle.surface.specs.Desugar.{Setting, constant_or_value, desugar}
+use Rattle.desugar.specs.Plain2.{IsSmall, AreSmall}
 use Rattle.desugar.specs.Forms2.{prefix_value, infix_value, evaluated}
 
 -- what a constant leaves
@@ -35,26 +36,32 @@ same_number e = cc
 no_number : (e : Fault) (z : ℤ) → Err e ≡ Found z → ⊥
 no_number e z h = absurd (cc)
 
-of_name : (s : Setting) (at : ℕ) (x : Name) (g : ℕ) (z : ℤ) (c : Option ℤ) → constant_or s.known at x c ≡ Ok z → (ws : Words) (zs : List ℤ)
+negative : (at n : ℕ) → is_in_64_bits (negsuc n) ≡ true → prefix_value at unary.Neg (pos (suc n)) ≡ negsuc n
+negative at n h = rw h refl
+
+of_name : (s : Setting) (at : ℕ) (x : Name) (g : ℕ) (z : ℤ) (c : Option ℤ) → constant_or s.known at x c ≡ Ok z → is_in_64_bits z ≡ true → (ws : Words) (zs : List ℤ)
     → evaluated (words (constant_or_value at x c) ++ ws) zs ≡ evaluated ws (z ∷ zs)
-of_name s at x g z (Some (pos n)) h ws zs = ap (λ (y : ℤ). evaluated ws (y ∷ zs)) (same_number h)
-of_name s at x g z (Some (negsuc n)) h ws zs = ap (λ (y : ℤ). evaluated ws (y ∷ zs)) (same_number h)
-of_name s at x g z None h ws zs = absurd (go (is_in x s.known.names) h)
+of_name s at x g z (Some (pos n)) h small ws zs = ap (λ (y : ℤ). evaluated ws (y ∷ zs)) (same_number h)
+of_name s at x g z (Some (negsuc n)) h small ws zs =
+    let e : negsuc n ≡ z = same_number h in
+    ap (λ (y : ℤ). evaluated ws (y ∷ zs)) (negative at n (ap is_in_64_bits e ∙ small) ∙ e)
+of_name s at x g z None h small ws zs = absurd (go (is_in x s.known.names) h)
   where
     go : (b : Bool) → (if b then refused BadConst at else refused (Core NoSuchName) at) ≡ Ok z → ⊥
     go true e = absurd (cc)
     go false e = absurd (cc)
 
-inverted_is : (at : ℕ) (op : Unary) (y z : ℤ) → inverted at op y ≡ Ok z → prefix_value at op y ≡ z
-inverted_is at unary.Not y z h = rw h refl
-inverted_is at unary.Neg y z h = go (is_in_64_bits (neg_ℤ y)) h
-  where
-    go : (b : Bool) → (if b then Ok (neg_ℤ y) else refused BadConst at) ≡ Ok z → neg_ℤ y ≡ z
-    go true e = same_number e
-    go false e = absurd (cc)
+-- `~` of what 64 bits hold
+abbrev MayInvert : Unary → ℤ → Type 0
+MayInvert unary.Neg y = ⊤
+MayInvert unary.Not y = is_in_64_bits y ≡ true
 
-combined_is : (at : ℕ) (sign : InfixSign) (x y z : ℤ) → combined at sign x y ≡ Ok z → infix_value at sign x y ≡ z
-combined_is at sign x y z h = rw h refl
+inverted_is : (at : ℕ) (op : Unary) (y z : ℤ) → MayInvert op y → inverted at op y ≡ Ok z → prefix_value at op y ≡ z
+inverted_is at unary.Not y z small h = rw (small, h) refl
+inverted_is at unary.Neg y z small h = rw h refl
+
+combined_is : (at : ℕ) (sign : InfixSign) (x y z : ℤ) → is_in_64_bits x ≡ true → is_in_64_bits y ≡ true → combined at sign x y ≡ Ok z → infix_value at sign x y ≡ z
+combined_is at sign x y z p q h = rw (p, q, h) refl
 
 prefix_words : (xs ws : Words) (at : ℕ) (op : Unary) → xs ++ core.Prefix at op ∷ [] ++ ws ≡ xs ++ (core.Prefix at op ∷ ws)
 prefix_words xs ws at op = append_assoc xs (core.Prefix at op ∷ []) ws
@@ -63,22 +70,23 @@ infix_words : (l r ws : Words) (at : ℕ) (sign : InfixSign) → l ++ core.Left 
 infix_words l r ws at sign = simp append_assoc
 
 leaves_prefix : (s : Setting) (t : Bool) (at : ℕ) (op : Unary) (e : Expr) (g : ℕ) (z : ℤ) → ((y : ℤ) → constant s.known e ≡ Ok y → Leaves (desugar s false e g) g y)
-    → (c : Result ℤ Fault) → constant s.known e ≡ c → (c >>= (λ (y : ℤ). inverted at op y)) ≡ Ok z → Leaves (desugar s t (Prefix at op e) g) g z
-leaves_prefix s t at op e g z i (Ok y) c h =
+    → (c : Result ℤ Fault) → constant s.known e ≡ c → (c >>= (λ (y : ℤ). inverted at op y)) ≡ Ok z → ((y : ℤ) → constant s.known e ≡ Ok y → MayInvert op y) → Leaves (desugar s t (Prefix at op e) g) g z
+leaves_prefix s t at op e g z i (Ok y) c h small =
     let r : Leaves (desugar s false e g) g y = i y c in
     let m : Made tree.Expr = desugar s false e g in
     record {
       lets = rw r.lets refl;
       given = r.given;
       number = λ ws zs. ap (λ (v : Words). evaluated v zs) (prefix_words (words m.it) ws at op) ∙ r.number (core.Prefix at op ∷ ws) zs
-          ∙ ap (λ (v : ℤ). evaluated ws (v ∷ zs)) (inverted_is at op y z h);
+          ∙ ap (λ (v : ℤ). evaluated ws (v ∷ zs)) (inverted_is at op y z (small y c) h);
     }
-leaves_prefix s t at op e g z i (Err f) c h = absurd (no_number f z h)
+leaves_prefix s t at op e g z i (Err f) c h small = absurd (no_number f z h)
 
 leaves_infix : (s : Setting) (t : Bool) (at : ℕ) (sign : InfixSign) (l r : Expr) (g : ℕ) (z : ℤ) → ((x : ℤ) → constant s.known l ≡ Ok x → Leaves (desugar s false l g) g x)
     → ((n : ℕ) (y : ℤ) → constant s.known r ≡ Ok y → Leaves (desugar s false r n) n y) → (c d : Result ℤ Fault) → constant s.known l ≡ c → constant s.known r ≡ d
-    → (c >>= (λ (x : ℤ). d >>= (λ (y : ℤ). combined at sign x y))) ≡ Ok z → Leaves (desugar s t (Infix at sign l r) g) g z
-leaves_infix s t at sign l r g z i j (Ok x) (Ok y) c d h =
+    → (c >>= (λ (x : ℤ). d >>= (λ (y : ℤ). combined at sign x y))) ≡ Ok z → IsSmall s.known l → IsSmall s.known r
+    → Leaves (desugar s t (Infix at sign l r) g) g z
+leaves_infix s t at sign l r g z i j (Ok x) (Ok y) c d h p_small q_small =
     let m : Made tree.Expr = desugar s false l g in
     let n : Made tree.Expr = desugar s false r m.given in
     let p : Leaves m g x = i x c in
@@ -87,23 +95,26 @@ leaves_infix s t at sign l r g z i j (Ok x) (Ok y) c d h =
       lets = rw (p.lets, q.lets) refl;
       given = q.given ∙ p.given;
       number = λ ws zs. ap (λ (v : Words). evaluated v zs) (infix_words (words m.it) (words n.it) ws at sign) ∙ p.number (core.Left ∷ (words n.it ++ (core.Infix at sign ∷ ws))) zs
-          ∙ q.number (core.Infix at sign ∷ ws) (x ∷ zs) ∙ ap (λ (v : ℤ). evaluated ws (v ∷ zs)) (combined_is at sign x y z h);
+          ∙ q.number (core.Infix at sign ∷ ws) (x ∷ zs) ∙ ap (λ (v : ℤ). evaluated ws (v ∷ zs)) (combined_is at sign x y z (p_small x c) (q_small y d) h);
     }
-leaves_infix s t at sign l r g z i j (Ok x) (Err f) c d h = absurd (no_number f z h)
-leaves_infix s t at sign l r g z i j (Err f) d c e h = absurd (no_number f z h)
+leaves_infix s t at sign l r g z i j (Ok x) (Err f) c d h p_small q_small = absurd (no_number f z h)
+leaves_infix s t at sign l r g z i j (Err f) d c e h p_small q_small = absurd (no_number f z h)
 
-pub leaves : (s : Setting) (t : Bool) (e : Expr) (g : ℕ) (z : ℤ) → constant s.known e ≡ Ok z → Leaves (desugar s t e g) g z
-leaves s t (Number at n) g z h = record { lets = refl; given = refl; number = λ ws zs. ap (λ (y : ℤ). evaluated ws (y ∷ zs)) (same_number h) }
-leaves s t (Named at x) g z h = record { lets = refl; given = refl; number = of_name s at x g z (lookup s.known.constants x) h }
-leaves s t (Bracket e) g z h =
-    let r : Leaves (desugar s t e g) g z = leaves s t e g z h in
+pub leaves : (s : Setting) (t : Bool) (e : Expr) (g : ℕ) (z : ℤ) → constant s.known e ≡ Ok z → AreSmall s.known e → Leaves (desugar s t e g) g z
+leaves s t (Number at n) g z h small = record { lets = refl; given = refl; number = λ ws zs. ap (λ (y : ℤ). evaluated ws (y ∷ zs)) (same_number h) }
+leaves s t (Named at x) g z h small = record { lets = refl; given = refl; number = of_name s at x g z (lookup s.known.constants x) h (small z h) }
+leaves s t (Bracket e) g z h small =
+    let r : Leaves (desugar s t e g) g z = leaves s t e g z h small in
     let m : Made tree.Expr = desugar s t e g in
     record {
       lets = rw r.lets refl;
       given = r.given;
       number = λ ws zs. ap (λ (v : Words). evaluated v zs) (append_assoc (words m.it) (core.Bracket ∷ []) ws) ∙ r.number (core.Bracket ∷ ws) zs;
     }
-leaves s t (Prefix at op e) g z h = leaves_prefix s t at op e g z (λ y c. leaves s false e g y c) (constant s.known e) refl h
-leaves s t (Infix at sign l r) g z h = leaves_infix s t at sign l r g z (λ x c. leaves s false l g x c) (λ n y d. leaves s false r n y d) (constant s.known l) (constant s.known r)
-    refl refl h
-leaves s t e g z h = absurd (cc)
+leaves s t (Prefix at unary.Neg e) g z h small =
+    leaves_prefix s t at unary.Neg e g z (λ y c. leaves s false e g y c small) (constant s.known e) refl h (λ y c. tt)
+leaves s t (Prefix at unary.Not e) g z h small =
+    leaves_prefix s t at unary.Not e g z (λ y c. leaves s false e g y c small.0) (constant s.known e) refl h small.1
+leaves s t (Infix at sign l r) g z h small =
+    leaves_infix s t at sign l r g z (λ x c. leaves s false l g x c small.0) (λ n y d. leaves s false r n y d small.1) (constant s.known l) (constant s.known r) refl refl h small.2 small.3
+leaves s t e g z h small = absurd (cc)

@@ -92,7 +92,7 @@ cube_is_plain : IsPlainProgram (known cube) cube
 cube_is_plain = ((tt, (tt, tt)), ((refl, (tt, tt, tt)), tt))
 
 built_in_is_plain : IsPlainProgram (known built_in) built_in
-built_in_is_plain = ((tt, tt), ((refl, (((tt, (tt, (tt, tt))), ((tt, (tt, (tt, tt))), (refl, tt))), ((refl, (pos 1, refl)), (tt, tt)))), tt))
+built_in_is_plain = ((tt, tt), ((refl, (((tt, (tt, (tt, tt))), ((tt, (tt, (tt, tt))), (refl, tt))), ((refl, record { number = pos 1; is = refl; small = tt }), (tt, tt)))), tt))
 
 of_pairs_is_plain : IsPlainProgram (known of_pairs) of_pairs
 of_pairs_is_plain = ((refl, (tt, tt)), ((refl, (tt, (tt, tt))), tt))

@@ -1,5 +1,5 @@
 -- FORMS OF THE CORE, AS WORDS: what indexes of tables and what is built in are short for.
-use Rattle.std.specs.Prelude.{ℕ, ℤ, pos, neg_ℤ, List, [], ◌∷◌, ◌++◌, Option, None, Some, Result, Ok, Err}
+use Rattle.std.specs.Prelude.{ℕ, ◌&&◌, ℤ, pos, List, [], ◌∷◌, ◌++◌, Option, None, Some, Result, Ok, Err, if◌then◌else◌}
 use Rattle.operators.specs.declared.Unary.{Unary}
 use Rattle.operators.specs.declared.Unary.TheVariants as unary
 use Rattle.operators.specs.declared.Binary.TheVariants.{Sub, Mul, Div, And, Or, Xor, Shr, Ne, Lt}
@@ -9,7 +9,7 @@ use Rattle.source.specs.declared.word.Word.{Word}
 use Rattle.source.specs.declared.word.Word.TheVariants as word
 use Rattle.surface.specs.declared.fault.Fault.{Fault}
 use Rattle.surface.specs.Known.{natural}
-use Rattle.surface.specs.Constants.{inverted, combined}
+use Rattle.surface.specs.Constants.{is_in_64_bits, inverted, combined}
 use Rattle.desugar.specs.declared.frame.Atom.{Atom}
 use Rattle.desugar.specs.Forms.{atom_words, atom_level, left_end, right_end}
 use Rattle.desugar.specs.Frames2.{Check}
@@ -53,17 +53,19 @@ abbrev pub without_sign_words : {N : Type 0} → ℕ → Atom N → N → List (
 without_sign_words at x sign = atom_words x ++ left_end Xor (atom_level x) ++ word.Name at sign ∷ word.Infix at (Direct Xor) ∷ word.Bracket ∷ word.Left
     ∷ word.Name at sign ∷ word.Infix at (Direct Sub) ∷ word.Bracket ∷ []
 
--- CONSTANTS, by their words in the core: what is left of numbers, the last one first
+-- CONSTANTS, by their words in the core: what is left of numbers, the last one first. Where a value is asked that 64 bits do not hold, or one of
+-- such a value, there is 0.
 abbrev pub integer_or_zero : Result ℤ Fault → ℤ
 integer_or_zero (Ok z) = z
 integer_or_zero (Err fault) = pos 0
 
+-- A `-` may be before the number 2 ^ 63.
 abbrev pub prefix_value : ℕ → Unary → ℤ → ℤ
-prefix_value at unary.Neg z = neg_ℤ z
-prefix_value at unary.Not z = integer_or_zero (inverted at unary.Not z)
+prefix_value at unary.Neg z = integer_or_zero (inverted at unary.Neg z)
+prefix_value at unary.Not z = if is_in_64_bits z then integer_or_zero (inverted at unary.Not z) else pos 0
 
 abbrev pub infix_value : ℕ → InfixSign → ℤ → ℤ → ℤ
-infix_value at sign x y = integer_or_zero (combined at sign x y)
+infix_value at sign x y = if is_in_64_bits x && is_in_64_bits y then integer_or_zero (combined at sign x y) else pos 0
 
 abbrev pub prefixed : ℕ → Unary → List ℤ → List ℤ
 prefixed at op [] = []

@@ -1,21 +1,40 @@
 -- PROGRAMS that call no function with parameters for arrays. What is built in has arguments as it may have, and a cell has at most three
 -- indexes: the static rules ask for both.
 use Rattle.std.specs.Prelude.{◌≡◌, true, ℤ, [], ◌∷◌, None, Ok, ⊤}
+use Rattle.operators.specs.declared.Unary.TheVariants.{Neg, Not as Flip}
 use Rattle.source.specs.Tree.{Name}
 use Rattle.surface.specs.Tree.{Expr, Number, Named, Bracket, Prefix, Infix, And, Or, Not, Fetch, Store, Call, If, Loop, For}
 use Rattle.surface.specs.Tree.{Exprs, One, More, Body, Let, Do, When, Give, Chain, Tests, Last, Else, Turn, Before, After, Carried, Nothing, With}
 use Rattle.surface.specs.Tree.{Item, Cells, Const, Defines, Program}
 use Rattle.surface.specs.Known.{Known, lookup, all_values, BuiltIn, Min, Max, Abs, Len, Callee, Missing, OfValues, OfArrays, IsBuiltIn, callee}
-use Rattle.surface.specs.Constants.{constant}
+use Rattle.surface.specs.Constants.{is_in_64_bits, constant}
 use Rattle.surface.specs.Rules.{ranks}
 
 -- what `len` is asked of: a name, which is no constant's; and a constant
 abbrev pub IsNoConstant : Known → Name → Type 0
 IsNoConstant k x = lookup k.constants x ≡ None
 
+-- 64 bits hold what it is, if it is a constant.
+abbrev pub IsSmall : Known → Expr → Type 0
+IsSmall k e = (z : ℤ) → constant k e ≡ Ok z → is_in_64_bits z ≡ true
+
+-- They hold each constant in it, and each operand, except that a `-` may be before the number 2 ^ 63.
+abbrev pub AreSmall : Known → Expr → Type 0
+AreSmall k (Named at x) = IsSmall k (Named at x)
+AreSmall k (Bracket e) = AreSmall k e
+AreSmall k (Prefix at Neg e) = AreSmall k e
+AreSmall k (Prefix at Flip e) = AreSmall k e × IsSmall k e
+AreSmall k (Infix at sign l r) = AreSmall k l × AreSmall k r × IsSmall k l × IsSmall k r
+AreSmall k e = ⊤
+
+pub record IsDimension (k : Known) (d : Expr) : Type 0 where
+  pub number : ℤ
+  pub is : constant k d ≡ Ok number
+  pub small : AreSmall k d
+
 abbrev pub IsMeasured : Known → Exprs → Type 0
 IsMeasured k (One (Named at x)) = IsNoConstant k x
-IsMeasured k (More (Named at x) (One d)) = IsNoConstant k x × ((z : ℤ) × (constant k d ≡ Ok z))
+IsMeasured k (More (Named at x) (One d)) = IsNoConstant k x × IsDimension k d
 IsMeasured k es = ⊥
 
 -- one argument
