@@ -21,3 +21,4 @@ pub mod Plain2
 pub mod StepsDesugar2
 pub mod NumbersDesugar2
 pub mod CoreMade2
+pub mod Code2
