@@ -7,7 +7,7 @@ use Rattle.operators.specs.declared.Binary.TheVariants.{Add, Sub, Mul, Div, And,
 use Rattle.source.specs.declared.word.InfixSign.TheVariants.{Direct}
 use Rattle.source.specs.declared.word.Word.TheVariants as core
 use Rattle.source.specs.Words.{Words}
-use Rattle.surface.specs.Tree.{Program}
+use Rattle.surface.specs.Tree.{Number, Named, Prefix, Infix, Call, One, More, Give, Cells, Const, Defines, Program}
 use Rattle.surface.specs.Words.{program_words}
 use Rattle.surface.specs.Known.{Known, nothing}
 use Rattle.surface.specs.Rules.{heads}
@@ -96,3 +96,20 @@ built_in_is_plain = ((tt, tt), ((refl, (((tt, (tt, (tt, tt))), ((tt, (tt, (tt, t
 
 of_pairs_is_plain : IsPlainProgram (known of_pairs) of_pairs
 of_pairs_is_plain = ((refl, (tt, tt)), ((refl, (tt, (tt, tt))), tt))
+
+-- a dimension that is a constant
+abbrev dimension : Program
+dimension = Const (record { at = 6; name = codes "N" }) (Prefix 10 Neg (Number 11 1)) ∷ Cells (record { at = 20; name = codes "A" }) (More (Number 22 3) (One (Number 25 4)))
+    ∷ Defines (record {
+      name = record { at = 32; name = codes "main" };
+      params = record { name = record { at = 37; name = codes "n" }; rank = 0 } ∷ [];
+      results = None;
+      body_at = 40;
+      body = Give (One (Call 42 false (codes "len") (More (Named 46 (codes "A")) (One (Infix 51 (Direct Add) (Named 49 (codes "N")) (Number 53 2))))));
+    }) ∷ []
+
+-- const N = -1; array A[3, 4]; fn main(n) { len(A, N + 2) }
+dimension_made : made dimension ≡ core.Array 20 (codes "A") ∷ core.Length 25 12 ∷ core.Function 32 (codes "main") ∷ core.Parameter 37 (codes "n") ∷ core.Body 40 ∷ core.List
+    ∷ core.Number 42 4 ∷ core.Part ∷ core.Give ∷ core.EndFunction ∷ []
+unfolding digits
+dimension_made = refl
