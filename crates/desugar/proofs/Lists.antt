@@ -7,27 +7,27 @@ use Rattle.source.specs.Tree.{Name}
 use Rattle.source.specs.Words.{Words}
 
 -- lists that are joined, by their numbers in a list of these
-pub data Joined : Type 0 where
+data Joined : Type 0 where
   At : (i : ℕ) → Joined
   Nil : Joined
   Then : (first second : Joined) → Joined
 
-abbrev pub picked : List Words → ℕ → Words
+abbrev picked : List Words → ℕ → Words
 picked [] i = []
 picked (x ∷ xs) zero = x
 picked (x ∷ xs) (suc i) = picked xs i
 
-abbrev pub joined : List Words → Joined → Words
+abbrev joined : List Words → Joined → Words
 joined env (At i) = picked env i
 joined env Nil = []
 joined env (Then x y) = joined env x ++ joined env y
 
-abbrev pub order : Joined → List ℕ → List ℕ
+abbrev order : Joined → List ℕ → List ℕ
 order (At i) r = i ∷ r
 order Nil r = r
 order (Then x y) r = order x (order y r)
 
-abbrev pub all_of : List Words → List ℕ → Words
+abbrev all_of : List Words → List ℕ → Words
 all_of env [] = []
 all_of env (i ∷ r) = picked env i ++ all_of env r
 
@@ -37,7 +37,7 @@ in_order env Nil r = refl
 in_order env (Then x y) r = append_assoc (joined env x) (joined env y) (all_of env r) ∙ ap (λ (z : Words). joined env x ++ z) (in_order env y r)
     ∙ in_order env x (order y r)
 
-pub equal : (env : List Words) (x y : Joined) → order x [] ≡ order y [] → joined env x ≡ joined env y
+equal : (env : List Words) (x y : Joined) → order x [] ≡ order y [] → joined env x ≡ joined env y
 equal env x y e = sym (append-nil (joined env x)) ∙ in_order env x [] ∙ ap (all_of env) e ∙ sym (in_order env y []) ∙ append-nil (joined env y)
 
 pub true_lists : (ws l k r n : Words) (a b c d e f : CoreWord Name) → ws ++ l ++ a ∷ [] ++ [] ++ k ++ b ∷ [] ++ r ++ (c ∷ d ∷ [] ++ (e ∷ (b ∷ n ++ c ∷ d ∷ []) ++ f ∷ []))

@@ -13,12 +13,3 @@ pub mod DeepSteps
 pub mod Code
 pub mod Open
 pub mod Passed
-pub mod Frames2
-pub mod Forms2
-pub mod Steps2
-pub mod Flags2
-pub mod Plain2
-pub mod StepsDesugar2
-pub mod NumbersDesugar2
-pub mod CoreMade2
-pub mod Code2
